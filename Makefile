@@ -28,7 +28,8 @@ SHELL := /bin/bash
 
 # Each ends `make` with a line that says what is missing.
 need_sources = $(if $(wildcard crates),,$(error there are no sources here: only demo, install and uninstall can be made))
-need_rt = $(need_sources)$(if $(shell command -v rt),,$(error `rt`, which the Rattle kit has, is not on PATH: see README.md))
+need_python = $(if $(shell command -v python3),,$(error `python3` is not on PATH: see README.md))
+need_rt = $(need_sources)$(need_python)$(if $(shell command -v rt),,$(error `rt`, which the Rattle kit has, is not on PATH: see README.md))
 
 all:
 	@$(need_rt)./build.py getmail popd
@@ -41,7 +42,7 @@ getmail popd:
 	install -m 644 -t bin crates/$@/out/$@.sources
 
 demo:
-	@$(if $(and $(wildcard bin/getmail),$(wildcard bin/popd)),,$(need_rt))python3 examples/demo/run.py
+	@$(need_python)$(if $(and $(wildcard bin/getmail),$(wildcard bin/popd)),,$(need_rt))python3 examples/demo/run.py
 
 check:
 	@$(need_rt)tests/gate.sh
@@ -53,6 +54,7 @@ quick:
 	@python3 tests/check_edits.py
 	@python3 tests/test_documents.py
 	@python3 tests/test_sources.py
+	@python3 tests/test_surface.py
 	@python3 tests/test_tools.py
 
 statement:
@@ -72,6 +74,7 @@ test:
 	@$(need_rt)./build.py getmail popd probe tests
 	python3 tests/test_documents.py
 	python3 tests/test_sources.py
+	python3 tests/test_surface.py
 	python3 tests/test_tools.py
 	python3 tests/run.py
 

@@ -19,6 +19,8 @@ esac
 place=${DESTDIR:-}$prefix
 share=$place/share
 docs=$share/doc/getmail
+# What the documents name as it lies here, and is installed beside them.
+beside='\(docs\|examples\)/\(FROM-GETMAIL6\.md\|getmailrc\.sample\|stunnel\.conf\|[a-z0-9_-]*\.py\)'
 # systemd looks for units in ~/.local/share, and not in ~/.local/lib.
 case $prefix in
     "${HOME:-}/.local") units=$share/systemd/user ;;
@@ -30,6 +32,12 @@ case ${1:-} in
     *) sed -n '2,8s/^# \{0,1\}//p' "$0" >&2; exit 2 ;;
 esac
 
+if [ "${1:-}" != --remove ]; then
+    for name in getmail popd; do
+        [ -f "bin/$name" ] || { echo "install.sh: bin/$name is not there: \`make\` builds it, and archives have it" >&2; exit 2; }
+    done
+fi
+
 # put MODE FILE PLACE
 put() {
     mkdir -p "$(dirname "$3")"
@@ -37,10 +45,11 @@ put() {
     chmod "$1" "$3"
 }
 
-# put_named FILE PLACE: a file that names the programs' folder gets the PREFIX; with /usr, PATH names it once
+# put_named FILE PLACE: a file that names the programs' folder gets the PREFIX; with /usr, PATH names it once. The files
+# beside it get their full paths.
 put_named() {
     mkdir -p "$(dirname "$2")"
-    sed "s|/usr/local|$prefix|g; s|/usr/bin:/usr/bin|/usr/bin|" "$1" >"$2"
+    sed "s|/usr/local/|$prefix/|g; s|/usr/bin:/usr/bin|/usr/bin|; s#\<$beside#$prefix/share/doc/getmail/\\2#g" "$1" >"$2"
     chmod 644 "$2"
 }
 
@@ -63,8 +72,11 @@ each_file() {
     for unit in examples/*.service examples/*.timer examples/*.socket; do
         "$2" "$unit" "$units/$(basename "$unit")"
     done
-    for file in README.md CHANGELOG.md LICENSE NOTICES docs/FROM-GETMAIL6.md docs/getmailrc.sample examples/stunnel.conf; do
-        "$1" 644 "$file" "$docs/$(basename "$file")"
+    for file in README.md CHANGELOG.md docs/FROM-GETMAIL6.md docs/getmailrc.sample examples/stunnel.conf; do
+        "$2" "$file" "$docs/$(basename "$file")"
+    done
+    for file in LICENSE NOTICES; do
+        "$1" 644 "$file" "$docs/$file"
     done
     for script in examples/*.py; do
         mode=644

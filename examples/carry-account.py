@@ -1,182 +1,304 @@
 #!/usr/bin/env python3
 """Carries an account of getmail over to another server, port or user name, so that nothing is fetched again.
 
-Without it another server (a socket in place of 127.0.0.1, a provider's new name) is another account to getmail. The record
-comes first and is written whole, then each file of new and cur gets its new name, and last the old record is renamed to
-`seen-DIGEST.carried`. So it may be interrupted at any moment, and run again: it goes on. While a getmail of either account
-runs, it changes nothing.
+Without it another server (a socket in place of 127.0.0.1, a provider's new name) is another account to getmail. First an
+empty file `carried-OLD-NEW` says that both are one. Then both records get the rows of both, each file of new and cur gets
+its new name, and last what was cut off from an mboxrd file. The old record stays, so that a run with the old rc file
+fetches nothing that was carried. The script may be killed at any moment, and run again after runs of either account: it
+goes on. If the new account has anything of its own before the first step, it is another one, and nothing is changed.
 """
 
 import argparse
 import contextlib
-import fcntl
-import hashlib
+import errno
 import os
+import re
 import stat
 import sys
 import time
+from typing import NamedTuple
 
-HEADERS = (b"getmail-seen 1", b"getmail-seen 2")
+sys.dont_write_bytecode = True
+from account_files import (Record, Refused, add_account, add_folder, content_of, digest_of, flush, flush_names, is_there, locked,
+                           opened, read_record, record_of, rename, shown, take_any_letter, write_whole)
+
+# What a reader has seen comes first: of two names of one file that one is kept.
+PARTS = ("cur", "new")
+# A digest, a legal unique-id in hexadecimal, and then the file's size and its reader's flags.
+NAME = re.compile(r"([0-9a-f]{64})\.((?:2[1-9a-f]|[3-6][0-9a-f]|7[0-9a-e]){1,70})(?:[,:].*)?", re.DOTALL)
+MARK = re.compile(r"carried-([0-9a-f]{64})-([0-9a-f]{64})")
+# How often something is tried while readers change the folders.
+TRIES = 100
+# How many nanoseconds a folder must be at rest so that each later change gives it another time; the second is for a file
+# system of whole seconds.
+STEP, STEP_OF_SECONDS = 20_000_000, 1_020_000_000
+# The errors of a file without rights, and of a link that leads nowhere.
+UNREADABLE = (errno.EACCES, errno.EPERM, errno.ELOOP, errno.ENOTDIR)
 
 
-class Refused(Exception):
-    """Why nothing more was changed."""
+class Message(NamedTuple):
+    """What has the name of an account's message."""
+
+    path: str
+    uid: bytes
+    is_file: bool
 
 
-def digest_of(server, port, username):
-    return hashlib.sha256(f"{server}\0{port}\0{username}".encode()).hexdigest()
+class Maildir:
+    """What two accounts have in a Maildir in which mail readers may be at work; without a path, nothing."""
+
+    def __init__(self, path, old, new):
+        self.folders = [os.path.join(path, part) for part in PARTS] if path is not None else []
+        self.old, self.new = old, new
+
+    def times(self):
+        """When the names of each folder changed last."""
+        return [os.stat(folder).st_ctime_ns for folder in self.folders]
+
+    def paths(self):
+        """The path of each file at one moment. Linux may leave out what is renamed during a listing."""
+        for _ in range(TRIES):
+            times, now = self.times(), time.time_ns()
+            steps = [STEP if changed % 1_000_000_000 else STEP_OF_SECONDS for changed in times]
+            left = [min(step, changed + step - now) for step, changed in zip(steps, times)]
+            time.sleep(max([0, *left]) / 1e9)
+            paths = [os.path.join(folder, name) for folder in self.folders for name in sorted(os.listdir(folder))]
+            if self.times() == times:
+                return paths
+        raise Refused(f"the names in {shown(os.path.dirname(self.folders[0]))} change all the time: close what reads mail there")
+
+    def look(self):
+        """The messages of the old account and of the new one, and what has a name like the old ones' and is none."""
+        messages, odd = {self.old: [], self.new: []}, []
+        for path in self.paths():
+            digest, name = os.path.basename(path)[:64], NAME.fullmatch(os.path.basename(path))
+            if name and digest in messages:
+                is_file = stat.S_ISREG(os.lstat(path).st_mode)
+                messages[digest].append(Message(path, bytes.fromhex(name[2]), is_file))
+            elif digest == self.old:
+                odd.append(path)
+        return messages[self.old], messages[self.new], odd
+
+    def new_path(self, path):
+        """The path of an old account's file under the new one."""
+        folder, name = os.path.split(path)
+        return os.path.join(folder, self.new + name.removeprefix(self.old))
+
+    def flush_names(self):
+        for folder in self.folders:
+            flush_names(folder)
 
 
-def rows_in(record):
-    """The rows of a record: the second and the state of each unique-id. A torn end counts for nothing."""
-    with open(record, "rb") as file:
-        lines = file.read().split(b"\n")[:-1]
-    rows, group, missing, is_open = {}, {}, 0, False
-    if lines and lines[0] not in HEADERS:
-        raise Refused(f"{record} is no record")
-    for number, line in enumerate(lines[1:], 2):
-        fields = line.split(b" ")
-        if fields[0] == b"+" and not missing and len(fields) == 2 and fields[1].isdigit():
-            missing = int(fields[1])
-        elif fields[0] == b"!" and not missing and len(fields) == 4:
-            is_open = True
-            continue
-        elif len(fields) == 3 and fields[1].isdigit() and fields[2] in (b"0", b"1"):
-            group[fields[0]] = fields[1], fields[2]
-            missing = max(missing - 1, 0)
-        else:
-            raise Refused(f"{record}: line {number} isn't understood")
-        if not missing:
-            rows.update(group)
-            group, is_open = {}, False
-    if is_open:
-        raise Refused(f"{record} has an entry of an mboxrd file that isn't settled: run getmail once more as before")
+def is_readable(path):
+    """Whether there is a file, or a link to one, that can be read; then what is in it is on the disk."""
+    try:
+        if not stat.S_ISREG(os.stat(path).st_mode):
+            return False
+        flush(path)
+    except OSError as error:
+        if error.errno in UNREADABLE or error.errno == errno.ENOENT and is_there(path):
+            return False
+        raise
+    return True
+
+
+def is_same(one, other):
+    """Whether two names are those of one file, or of two files with the same octets; then the other one is on the disk."""
+    about_one, about_other = os.lstat(one), os.lstat(other)
+    if os.path.samestat(about_one, about_other):
+        return True
+    if not all(stat.S_ISREG(about.st_mode) for about in (about_one, about_other)) or about_one.st_size != about_other.st_size:
+        return False
+    try:
+        if content_of(one) != content_of(other):
+            return False
+    except PermissionError:
+        return False
+    flush(other)
+    flush_names(os.path.dirname(other))
+    return os.path.samestat(about_other, os.lstat(other))
+
+
+def is_one_account(folder, old, new):
+    """Whether one of two accounts was carried over to the other, or is being carried, by way of others too."""
+    pairs = [{mark[1], mark[2]} for mark in map(MARK.fullmatch, os.listdir(folder)) if mark]
+    known = {old}
+    for _ in pairs:
+        known.update(*(pair for pair in pairs if pair & known))
+    return new in known
+
+
+def merged(records, uids, now):
+    """The rows of two records of one account, and of messages that are held: the earlier second, delivered if one says so."""
+    rows = {}
+    for second, state, uid in [(*row, uid) for record in records for uid, row in record.rows.items()] + \
+            [(b"%d" % now, b"1", uid) for uid in uids]:
+        known = rows.get(uid, (second, state))
+        rows[uid] = min(known[0], second, key=int), max(known[1], state)
     return rows
 
 
-def put(path, content):
-    """Makes a file that isn't there yet, whole or not at all."""
-    begun = f"{path}.new"
-    with open(begun, "wb", opener=lambda name, flags: os.open(name, flags, 0o600)) as file:
-        file.write(content)
-        file.flush()
-        os.fsync(file.fileno())
-    os.rename(begun, path)
-    flush(os.path.dirname(path))
-
-
-def flush(path):
-    """What is in a file, or the names of a folder, are on the disk after it."""
-    opened = os.open(path, os.O_RDONLY)
-    try:
-        os.fsync(opened)
-    finally:
-        os.close(opened)
-
-
-@contextlib.contextmanager
-def locked(path):
-    """Keeps runs of an account away."""
-    with open(path, "ab", opener=lambda name, flags: os.open(name, flags, 0o600)) as file:
+def again(attempt):
+    """What `attempt` answers once no reader has moved a file meanwhile."""
+    for left in reversed(range(TRIES)):
         try:
-            fcntl.flock(file, fcntl.LOCK_EX | fcntl.LOCK_NB)
-        except BlockingIOError:
-            raise Refused("a getmail of the account is at work: try again when it has ended") from None
-        yield
+            return attempt()
+        except FileNotFoundError:
+            if not left:
+                raise
 
 
-def named(maildir, digest):
-    """What has the name of an account's message in a Maildir: its folder, its name, and the unique-id."""
-    for part in ("new", "cur"):
-        folder = os.path.join(maildir, part)
-        for name in sorted(os.listdir(folder)):
-            owner, dot, rest = name.partition(".")
-            if owner == digest and dot:
-                yield folder, name, bytes.fromhex(rest.partition(":")[0].partition(",")[0])
+class Carry:
+    """An account that is carried over to another one, between runs of both."""
+
+    def __init__(self, folder, old, new, maildir):
+        self.folder, self.mark = folder, os.path.join(folder, f"carried-{old}-{new}")
+        self.records = [os.path.join(folder, f"seen-{digest}") for digest in (old, new)]
+        self.rests = [f"{record}.rest" for record in self.records]
+        self.is_one = is_one_account(folder, old, new)
+        self.maildir = Maildir(maildir, old, new)
+        self.has_begun = False
+
+    def read(self, record):
+        """The record at a path; an empty one if there is none and the accounts are known to be one."""
+        if self.is_one and not is_there(record):
+            return Record({}, False)
+        found = read_record(record)
+        if found.is_open:
+            raise Refused(f"{shown(record)} has an entry of an mboxrd file that isn't settled: run getmail once more with the "
+                          "rc file of this record")
+        return found
+
+    def check_another(self, old, new):
+        """The new account has nothing yet, unless both are known to be one."""
+        if self.is_one:
+            return
+        for there, here in zip([self.records[1], self.rests[1]], [self.records[0], self.rests[0]]):
+            if is_there(there):
+                raise Refused(f"{shown(there)} is there already, the record of another account: {shown(here)} stays")
+        for message in new:
+            here = next((one.path for one in old if one.uid == message.uid), self.records[0])
+            raise Refused(f"{shown(message.path)} is there already, a message of another account: {shown(here)} stays")
+
+    def check_free(self, one, other):
+        """Nothing is lost if one path gets the name of the other."""
+        if is_there(other) and not is_same(one, other):
+            raise Refused(f"{shown(other)} is there already, with other octets than {shown(one)}: look at both, and remove or "
+                          "rename one of them")
+
+    def plan(self):
+        """Both records, and the rows that both get. All is checked before anything is changed."""
+        if not self.is_one and not is_there(self.records[0]):
+            raise Refused(f"{shown(self.records[0])} isn't there: getmail hasn't run for the old account in this folder")
+        old, new, _ = self.maildir.look()
+        self.check_another(old, new)
+        for message in old:
+            if message.is_file:
+                self.check_free(message.path, self.maildir.new_path(message.path))
+        if self.has_rest():
+            self.check_free(*self.rests)
+        records = [self.read(record) for record in (self.records if self.is_one else self.records[:1])]
+        delivered = {uid for record in records for uid, (_, state) in record.rows.items() if state == b"1"}
+        uids = [one.uid for one in old + new if one.uid not in delivered and is_readable(one.path)]
+        if uids:
+            self.maildir.flush_names()
+        return records, merged(records, uids, int(time.time()))
+
+    def has_rest(self):
+        return is_there(self.rests[0]) and stat.S_ISREG(os.lstat(self.rests[0]).st_mode)
+
+    def write_records(self, records, rows):
+        if not self.is_one:
+            with opened(self.mark, os.O_WRONLY | os.O_CREAT | os.O_EXCL) as number:
+                os.fsync(number)
+            flush_names(self.folder)
+        for path, record in zip(self.records, [*records, Record({}, False)]):
+            if record.rows != rows or not is_there(path):
+                write_whole(path, record_of(rows), replaces=is_there(path))
+
+    def rename_one(self, path, others):
+        """Gives a file its new name. If one of the new account's with its unique-id has its octets, only the old name goes."""
+        for other in others:
+            if is_same(path, other):
+                os.unlink(path)
+                return
+        try:
+            rename(path, self.maildir.new_path(path))
+        except FileExistsError:
+            self.check_free(path, self.maildir.new_path(path))
+
+    def rename_files(self):
+        """Gives each file of the old account the new one's name, and answers how many there were and what was left alone."""
+        count = 0
+        for _ in range(TRIES):
+            old, new, odd = again(self.maildir.look)
+            files = [message for message in old if message.is_file]
+            if not files:
+                self.maildir.flush_names()
+                return count, odd + [message.path for message in old]
+            there = {}
+            for message in new:
+                there.setdefault(message.uid, []).append(message.path)
+            for message in files:
+                with contextlib.suppress(FileNotFoundError):
+                    self.rename_one(message.path, there.get(message.uid, []))
+                    count += 1
+        raise Refused(f"{shown(files[0].path)} gets other names all the time: close what reads mail there")
+
+    def rename_rest(self):
+        """Gives what was cut off from an mboxrd file its new name, and answers what was left alone."""
+        if not self.has_rest():
+            return [path for path in self.rests[:1] if is_there(path)]
+        if is_there(self.rests[1]):
+            self.check_free(*self.rests)
+            os.unlink(self.rests[0])
+        else:
+            rename(*self.rests)
+        flush_names(self.folder)
+        return []
+
+    def run(self):
+        """Answers how many files got new names, and what was left alone."""
+        records, rows = again(self.plan)
+        self.has_begun = True
+        self.write_records(records, rows)
+        count, odd = self.rename_files()
+        return count, odd + self.rename_rest()
 
 
-def flush_names(maildir):
-    for part in ("new", "cur"):
-        flush(os.path.join(maildir, part))
-
-
-def is_file(path):
-    """Whether there is a file, or a link to one, that can be read; then what is in it is on the disk."""
-    with contextlib.suppress(OSError):
-        if stat.S_ISREG(os.stat(path).st_mode):
-            flush(path)
-            return True
-    return False
-
-
-def held(maildir, digest):
-    """The unique-ids of messages whose files can be read, flushed with their names. Nobody knows what else holds."""
-    uids = [uid for folder, name, uid in named(maildir, digest) if is_file(os.path.join(folder, name))]
-    flush_names(maildir)
-    return uids
-
-
-def carry_record(old, new, uids, now):
-    """The new record says of all that was delivered, or is held, that it was delivered."""
-    rows = rows_in(old)
-    for uid in uids:
-        rows[uid] = rows.get(uid, (b"%d" % now,))[0], b"1"
-    if os.path.lexists(new):
-        there = rows_in(new)
-        missing = [uid for uid, (_, state) in rows.items() if state == b"1" and there.get(uid, (b"", b""))[1] != b"1"]
-        if missing:
-            raise Refused(f"{new} is there already, the record of another account: nothing was changed")
-        return
-    lines = (b"%s %s %s\n" % (uid, *row) for uid, row in rows.items())
-    put(new, HEADERS[1] + b"\n" + b"".join(lines))
-
-
-def carry_files(maildir, old, new):
-    """Gives each file of the old account the new one's name, and answers how many there were."""
-    names = list(named(maildir, old))
-    for folder, name, _ in names:
-        os.rename(os.path.join(folder, name), os.path.join(folder, new + name.removeprefix(old)))
-    flush_names(maildir)
-    return len(names)
-
-
-def carry(folder, old, new, maildir, now):
-    """Carries the account of one digest over to another, and answers how many files got new names."""
-    record, other = (os.path.join(folder, f"seen-{digest}") for digest in (old, new))
-    if not os.path.lexists(record) and not os.path.lexists(other):
-        raise Refused(f"{record} isn't there: getmail hasn't run for the old account in this folder")
-    uids = held(maildir, old) if maildir else []
-    if os.path.lexists(record):
-        carry_record(record, other, uids, now)
-    count = carry_files(maildir, old, new) if maildir else 0
-    for end in (".rest", ""):
-        if os.path.lexists(record + end):
-            os.rename(record + end, other + end if end else f"{record}.carried")
-    flush(folder)
-    return count
+def carry(asked, old, new):
+    """Carries one account over to the other, while no getmail of either is at work, and tells what was done."""
+    end = "nothing was changed"
+    try:
+        with locked(asked.g, old), locked(asked.g, new):
+            work = Carry(asked.g, old, new, asked.maildir)
+            try:
+                count, odd = work.run()
+            finally:
+                end = "run this again once that is over" if work.has_begun else end
+    except Refused as reason:
+        sys.exit(f"{reason}; {end}")
+    except OSError as error:
+        sys.exit(f"{shown(error.filename or asked.g)}: {error.strerror}; {end}")
+    for path in odd:
+        print(f"{shown(path)}: no file of a message, left as it is", file=sys.stderr)
+    print(f"{shown(work.records[1])}: {count} files have new names")
+    print("Now remove the old rc file, or change it: what a run with it fetches comes once more, unless it is carried again")
 
 
 def main():
+    take_any_letter()
     words = argparse.ArgumentParser(description=__doc__.splitlines()[0])
-    words.add_argument("-g", metavar="DIR", default=os.path.expanduser("~/.getmail"), help="getmail's folder [~/.getmail]")
-    for which in ("", "new_"):
-        words.add_argument(f"{which}server", help="as in the rc file, letter by letter")
-        words.add_argument(f"{which}port", type=int)
-        words.add_argument(f"{which}username")
+    add_folder(words)
+    add_account(words)
+    add_account(words, "new_")
     words.add_argument("maildir", nargs="?", help="the destination; leave it out for an mboxrd file")
     asked = words.parse_args()
     old = digest_of(asked.server, asked.port, asked.username)
     new = digest_of(asked.new_server, asked.new_port, asked.new_username)
     if old == new:
         sys.exit("both accounts are the same; nothing was changed")
-    try:
-        with locked(os.path.join(asked.g, f"lock-{old}")), locked(os.path.join(asked.g, f"lock-{new}")):
-            count = carry(asked.g, old, new, asked.maildir, int(time.time()))
-    except Refused as reason:
-        sys.exit(str(reason))
-    except OSError as error:
-        sys.exit(f"{error.filename}: {error.strerror}; run this again once that is mended")
-    print(f"{asked.g}/seen-{new}: {count} files have new names")
+    carry(asked, old, new)
 
 
 if __name__ == "__main__":

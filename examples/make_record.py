@@ -5,12 +5,13 @@ it should be, nothing is written.
 """
 
 import argparse
-import hashlib
+import contextlib
 import os
 import sys
 import time
 
-HEADER = b"getmail-seen 2\n"
+from account_files import (Refused, add_account, add_folder, digest_of, flush, flush_names, is_there, locked, read_record,
+                           record_of, shown, take_any_letter, write_whole)
 
 
 class BadLine(Exception):
@@ -50,18 +51,15 @@ def chosen(lists, username, account):
 
 
 def write(record, seconds):
-    """Writes a record that isn't there yet; a write that fails leaves no file."""
-    file = os.open(record, os.O_WRONLY | os.O_CREAT | os.O_EXCL, 0o600)
-    try:
-        with os.fdopen(file, "wb") as out:
-            out.write(HEADER)
-            for uid, second in seconds.items():
-                out.write(b"%s %d 1\n" % (uid, second))
-            out.flush()
-            os.fsync(out.fileno())
-    except BaseException:
-        os.unlink(record)
-        raise
+    """Writes a record that isn't there yet, or that is there already with these messages: a killed script left it."""
+    if is_there(record):
+        with contextlib.suppress(Refused):
+            rows = read_record(record).rows
+            if all(rows.get(uid, (b"", b""))[1] == b"1" for uid in seconds):
+                flush(record)
+                flush_names(os.path.dirname(record))
+                return
+    write_whole(record, record_of({uid: (b"%d" % second, b"1") for uid, second in seconds.items()}))
 
 
 def run(about, kind, read, has_accounts):
@@ -70,31 +68,34 @@ def run(about, kind, read, has_accounts):
     `read` gets the file's octets, the second now, and the user name and `--account` as octets. It answers with the second
     at which each unique-id was first seen.
     """
+    take_any_letter()
     words = argparse.ArgumentParser(description=about)
-    words.add_argument("-g", metavar="DIR", default=os.path.expanduser("~/.getmail"), help="getmail's folder [~/.getmail]")
-    words.add_argument("server", help="as in the rc file of getmail, letter by letter")
-    words.add_argument("port", type=int)
-    words.add_argument("username")
+    add_folder(words)
+    add_account(words)
     words.add_argument("list", help=f"the file: {kind}")
     words.set_defaults(account=None)
     if has_accounts:
         words.add_argument("--account", metavar="USER@HOST", help="the account in that file, if it isn't USERNAME's only one")
     asked = words.parse_args()
 
-    account = f"{asked.server}\0{asked.port}\0{asked.username}".encode()
-    record = os.path.join(asked.g, "seen-" + hashlib.sha256(account).hexdigest())
+    digest = digest_of(asked.server, asked.port, asked.username)
+    record = os.path.join(asked.g, f"seen-{digest}")
     try:
         with open(asked.list, "rb") as file:
             content = file.read()
         seconds = read(content, int(time.time()), os.fsencode(asked.username), asked.account and os.fsencode(asked.account))
-        write(record, seconds)
+        with locked(asked.g, digest):
+            write(record, seconds)
     except BadLine as line:
-        sys.exit(f"{asked.list}: line {line} is no line of {kind}; nothing was written")
+        sys.exit(f"{shown(asked.list)}: line {line} is no line of {kind}; nothing was written")
     except NoAccount as reason:
-        sys.exit(f"{asked.list} {reason}; nothing was written")
+        sys.exit(f"{shown(asked.list)} {reason}; nothing was written")
+    except Refused as reason:
+        sys.exit(f"{reason}; nothing was written")
     except FileExistsError:
-        sys.exit(f"{record} is there already: getmail has run for this account, and its record stays as it is. To start "
+        sys.exit(f"{shown(record)} is there already: getmail has run for this account, and its record stays as it is. To start "
                  "from the other program's list instead, move the record away and run this again")
     except OSError as error:
-        sys.exit(f"{error.filename or record}: {error.strerror}; nothing was written")
-    print(f"{record}: {len(seconds)} messages")
+        end = "run this again once that is mended" if os.path.lexists(record) else "nothing was written"
+        sys.exit(f"{shown(error.filename or record)}: {error.strerror}; {end}")
+    print(f"{shown(record)}: {len(seconds)} messages")

@@ -1,5 +1,5 @@
 #!/usr/bin/env python3
-"""Writes dist/getmail-VERSION-linux-ARCH.tar.gz and, if dpkg-deb is installed, dist/quailtuffet_VERSION_ARCH.deb.
+"""Writes dist/quailtuffet-VERSION-linux-ARCH.tar.gz and, if dpkg-deb is installed, dist/quailtuffet_VERSION_ARCH.deb.
 
 Both hold the programs of bin/, which have to be there and need only the C library. The archive installs itself by its
 own install.sh. The same files give the same octets: the time of each file is that of SOURCE_DATE_EPOCH, or of the last
@@ -210,7 +210,7 @@ def main():
             sys.exit(f"bin/{name} is not there; `make` builds it")
     (TOP / "dist").mkdir(exist_ok=True)
     seconds = moment()
-    print(write_archive(f"getmail-{version()}-linux-{os.uname().machine}", seconds).relative_to(TOP))
+    print(write_archive(f"{NAME}-{version()}-linux-{os.uname().machine}", seconds).relative_to(TOP))
     if shutil.which("dpkg-deb") and shutil.which("dpkg"):
         print(write_package(seconds).relative_to(TOP))
     else:

@@ -12,6 +12,7 @@ TIMEFORMAT='rt ci took %0U s of processor time, in %0R s'
 python3 tests/check_edits.py
 python3 tests/test_documents.py
 python3 tests/test_sources.py
+python3 tests/test_surface.py
 python3 tests/test_tools.py
 
 time rt ci | tee "$log"

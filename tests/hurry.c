@@ -3,9 +3,9 @@
        cc -O1 -shared -fPIC -o hurry.so hurry.c -ldl
        HURRY=60 HURRY_NOTE=note LD_PRELOAD=./hurry.so PROGRAM ..
 
-   Its monotonic clock goes 60 times as fast, here; a poll, and a read or a write of a socket whose waits it has bounded,
-   last the 60th part. Each bound adds a line to the file `note`: `poll`, `read` or `write` and the milliseconds that
-   were asked for. `nodelay 1` says that what is written to a socket is to go out at once. With HURRY_REFUSED=read, or
+   Its monotonic clock goes 60 times as fast, here; a poll, a sleep of a second or more, and a read or a write of a socket
+   whose waits it has bounded, last the 60th part. Each bound or sleep adds a line to the file `note`: `poll`, `sleep`,
+   `read` or `write` and the milliseconds that were asked for. `nodelay 1` says that what is written to a socket is to go out at once. With HURRY_REFUSED=read, or
    =write, that bound of a socket answers -1 with EINVAL; with =idle, each bound of ten minutes or more. */
 
 #define _GNU_SOURCE
@@ -67,6 +67,20 @@ int poll(struct pollfd *asked, nfds_t count, int milliseconds)
 {
     write_down("poll", milliseconds);
     return next_poll(asked, count, milliseconds > 0 ? (int)(milliseconds / speed) + 1 : milliseconds);
+}
+
+int nanosleep(const struct timespec *asked, struct timespec *left)
+{
+    static int (*next_nanosleep)(const struct timespec *, struct timespec *);
+    long milliseconds = asked->tv_sec * 1000 + asked->tv_nsec / 1000000;
+    struct timespec part = {milliseconds / speed / 1000, milliseconds / speed % 1000 * 1000000};
+
+    if (!next_nanosleep)
+        next_nanosleep = dlsym(RTLD_NEXT, "nanosleep");
+    if (asked->tv_sec == 0)
+        return next_nanosleep(asked, left);
+    write_down("sleep", milliseconds);
+    return next_nanosleep(&part, left);
 }
 
 int setsockopt(int socket, int level, int name, const void *value, socklen_t size)

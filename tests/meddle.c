@@ -12,8 +12,8 @@
 
    Each time that the file of MEDDLE_REFUSED is opened, that answers -1 with EACCES. Each read of the file of
    MEDDLE_BROKEN but the first answers -1 with EIO, and so does each removal of the file of MEDDLE_KEPT. With MEDDLE_WHEN
-   nothing of all this happens before the file of that path is there. A file is known by the path that the program gives;
-   a folder's ends with a slash. */
+   nothing of all this happens before the file of that path is there. A file is known by the path that the program gives,
+   or by that of the open folder through which it gives it; a folder's ends with a slash. */
 
 #define _GNU_SOURCE
 #include <dirent.h>
@@ -25,6 +25,7 @@
 #include <string.h>
 #include <sys/types.h>
 #include <unistd.h>
+#include "way.h"
 
 static int read_file = -1;
 static int broken_file = -1;
@@ -66,9 +67,11 @@ static void move_to_and_fro(void)
     moved = !moved;
 }
 
-static int meddle(const char *path)
+static int meddle(const char *given)
 {
     int elsewhere = getenv("MEDDLE_AT") || getenv("MEDDLE_READ") || getenv("MEDDLE_MISSED");
+    char room[PATH_MAX];
+    const char *path = named_path(given, room);
 
     if (!is_on())
         return 0;
@@ -82,8 +85,11 @@ static int meddle(const char *path)
     return -1;
 }
 
-static int noted(const char *path, int file)
+static int noted(const char *given, int file)
 {
+    char room[PATH_MAX];
+    const char *path = named_path(given, room);
+
     if (file >= 0 && (file == read_file || is_named(path, "MEDDLE_READ")))
         read_file = is_named(path, "MEDDLE_READ") ? file : -1;
     if (file >= 0 && (file == broken_file || is_named(path, "MEDDLE_BROKEN")))
@@ -127,6 +133,20 @@ int unlink(const char *path)
         real = dlsym(RTLD_NEXT, "unlink");
     if (!is_named(path, "MEDDLE_KEPT") || !is_on())
         return real(path);
+    errno = EIO;
+    return -1;
+}
+
+int unlinkat(int folder, const char *name, int flags)
+{
+    static int (*real)(int, const char *, int);
+    char rest[PATH_MAX], room[PATH_MAX];
+
+    if (!real)
+        real = dlsym(RTLD_NEXT, "unlinkat");
+    snprintf(rest, sizeof rest, "/%s", name);
+    if (!is_named(path_in(folder, rest, room), "MEDDLE_KEPT") || !is_on())
+        return real(folder, name, flags);
     errno = EIO;
     return -1;
 }

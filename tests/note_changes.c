@@ -108,6 +108,9 @@ int open(const char *path, int flags, ...)
     return opened(next(path, flags, mode), path, flags, before);
 }
 
+/* The name by which python3 has it. */
+int open64(const char *path, int flags, ...) __attribute__((alias("open")));
+
 int openat(int folder, const char *path, int flags, ...)
 {
     off_t before = length_before(path);
@@ -217,6 +220,13 @@ int rename(const char *from, const char *to)
 {
     NEXT(rename);
     return renamed("rename", from, to, next(from, to));
+}
+
+/* Without folders: the paths are absolute, or taken from the working folder. */
+int renameat2(int from_folder, const char *from, int to_folder, const char *to, unsigned flags)
+{
+    NEXT(renameat2);
+    return renamed("rename", from, to, next(from_folder, from, to_folder, to, flags));
 }
 
 int link(const char *from, const char *to)

@@ -3,14 +3,17 @@
        cc -O1 -shared -fPIC -o refuse_call.so refuse_call.c -ldl
        REFUSED_CALL=read-timeout LD_PRELOAD=./refuse_call.so PROGRAM ..
 
-   The kinds: `read-timeout` and `write-timeout`, a bound on the waits of a socket; `random`, random octets; `look`, a
-   look at a file of a folder `new`, which fails by a fault of the device; `told`, a look at a file `told-..`, for want of
-   memory; `folder-flush`, the flush of a folder, as on a file system that has none; `lock-none-left` and
-   `lock-unsupported`, the lock of a file. With REFUSED_WHEN none is refused before the file of that path is there. */
+   The kinds: `read-timeout` and `write-timeout`, a bound on the waits of a socket; `random`, random octets; `look`,
+   a look at a file of a folder `new` and `record`, one at a file `seen-..`, which fail by a fault of the device, the
+   first where files have no second name, so that a name is looked up; `told`, a look at a file `told-..`, for want
+   of memory; `folder-flush`, the flush of a folder, and `sparing-rename`, a rename that spares what is there, as on
+   a file system that has none; `lock-none-left` and `lock-unsupported`, the lock of a file. With REFUSED_WHEN none
+   is refused before the file of that path is there. */
 
 #define _GNU_SOURCE
 #include <dlfcn.h>
 #include <errno.h>
+#include <stdio.h>
 #include <stdlib.h>
 #include <string.h>
 #include <sys/file.h>
@@ -79,12 +82,35 @@ int fsync(int descriptor)
     return next(descriptor);
 }
 
+int renameat2(int from_folder, const char *from, int to_folder, const char *to, unsigned flags)
+{
+    int (*next)(int, const char *, int, const char *, unsigned) = dlsym(RTLD_NEXT, "renameat2");
+
+    if (flags && refuses("sparing-rename")) {
+        errno = EINVAL;
+        return -1;
+    }
+    return next(from_folder, from, to_folder, to, flags);
+}
+
+int link(const char *from, const char *to)
+{
+    int (*next)(const char *, const char *) = dlsym(RTLD_NEXT, "link");
+
+    if (refuses("look")) {
+        errno = EPERM;
+        return -1;
+    }
+    return next(from, to);
+}
+
 int statx(int folder, const char *path, int flags, unsigned int mask, struct statx *found)
 {
     int (*next)(int, const char *, int, unsigned int, struct statx *) = dlsym(RTLD_NEXT, "statx");
 
-    if ((refuses("look") && is_in_new(path)) || (refuses("told") && strstr(path, "/told-"))) {
-        errno = refuses("look") ? EIO : ENOMEM;
+    if ((refuses("look") && is_in_new(path)) || (refuses("record") && strstr(path, "/seen-"))
+        || (refuses("told") && strstr(path, "/told-"))) {
+        errno = refuses("told") ? ENOMEM : EIO;
         return -1;
     }
     return next(folder, path, flags, mask, found);

@@ -3,13 +3,15 @@
        cc -O1 -shared -fPIC -o refuse_step.so refuse_step.c -ldl
        STEP_BELOW=/home/fred STEP_NOTE=note STEP_REFUSED=7 STEP_EFFECT=half LD_PRELOAD=./refuse_step.so PROGRAM ..
 
-   The steps are open, openat, stat, lstat, fstat, lseek, read, write, fsync, ftruncate, rename and unlink of a file or a
-   folder below that one, and connect, send and recv. Each adds a line to the file `note`: its word and what it is for.
+   The steps are open, openat, stat, lstat, fstat, lseek, read, write, fsync, ftruncate, rename, link and unlink of a file
+   or a folder below that one, by its path or through a folder that is open, and connect, send and recv. Each adds a line to
+   the file `note`: its word and what it is for.
    The seventh, here, is answered -1 with EIO, and its line begins with `refused`. Its effect is `none`, `whole`, `half`,
    the first half of the bytes for a write or a send and nothing for any other step, or `zero`: a write is answered 0.
    With STEP_LATER set all later steps are refused too, with no effect. Without STEP_REFUSED none is refused. */
 
 #include "note.h"
+#include "way.h"
 #include <stdarg.h>
 #include <sys/socket.h>
 
@@ -76,9 +78,17 @@ static enum effect taken_of(const char *word, int descriptor)
     return is_of_file(descriptor) ? taken(word, path_of(descriptor, path)) : DONE;
 }
 
+static enum effect taken_at(const char *word, const char *given)
+{
+    char room[PATH_MAX];
+    const char *path = named_path(given, room);
+
+    return is_below(path) ? taken(word, path) : DONE;
+}
+
 int open(const char *path, int flags, ...)
 {
-    enum effect effect = is_below(path) ? taken("open", path) : DONE;
+    enum effect effect = taken_at("open", path);
     va_list more;
     mode_t mode;
     int answer;
@@ -99,7 +109,7 @@ int open(const char *path, int flags, ...)
 
 int openat(int folder, const char *path, int flags, ...)
 {
-    enum effect effect = is_below(path) ? taken("openat", path) : DONE;
+    enum effect effect = taken_at("openat", path);
     va_list more;
     mode_t mode;
     NEXT(openat);
@@ -114,7 +124,7 @@ int statx(int folder, const char *path, int flags, unsigned int mask, struct sta
 {
     NEXT(statx);
     const char *word = flags & AT_SYMLINK_NOFOLLOW ? "lstat" : "stat";
-    enum effect effect = *path ? (is_below(path) ? taken(word, path) : DONE) : taken_of("fstat", folder);
+    enum effect effect = *path ? taken_at(word, path) : taken_of("fstat", folder);
 
     return effect == DONE ? next(folder, path, flags, mask, found) : refused();
 }
@@ -169,10 +179,10 @@ int ftruncate(int descriptor, off_t size)
     return refused();
 }
 
-int rename(const char *from, const char *to)
+/* Gives a file another name by this call of the system. */
+static int named(const char *word, int (*next)(const char *, const char *), const char *from, const char *to)
 {
-    NEXT(rename);
-    enum effect effect = is_below(to) ? taken("rename", to) : DONE;
+    enum effect effect = is_below(to) ? taken(word, to) : DONE;
 
     if (effect == DONE)
         return next(from, to);
@@ -181,15 +191,42 @@ int rename(const char *from, const char *to)
     return refused();
 }
 
+int rename(const char *from, const char *to)
+{
+    NEXT(rename);
+    return named("rename", next, from, to);
+}
+
+int link(const char *from, const char *to)
+{
+    NEXT(link);
+    return named("link", next, from, to);
+}
+
 int unlink(const char *path)
 {
     NEXT(unlink);
-    enum effect effect = is_below(path) ? taken("unlink", path) : DONE;
+    enum effect effect = taken_at("unlink", path);
 
     if (effect == DONE)
         return next(path);
     if (effect == WHOLE)
         next(path);
+    return refused();
+}
+
+int unlinkat(int folder, const char *name, int flags)
+{
+    NEXT(unlinkat);
+    char rest[PATH_MAX], path[PATH_MAX];
+    enum effect effect;
+
+    snprintf(rest, sizeof rest, "/%s", name);
+    effect = is_below(path_in(folder, rest, path)) ? taken("unlink", path) : DONE;
+    if (effect == DONE)
+        return next(folder, name, flags);
+    if (effect == WHOLE)
+        next(folder, name, flags);
     return refused();
 }
 

@@ -3,7 +3,7 @@
        cc -O1 -shared -fPIC -o short_names.so short_names.c -ldl
        LONGEST_NAME=143 LD_PRELOAD=./short_names.so PROGRAM ..
 
-   To open a file whose name has more octets, and to rename one to such a name, is refused with ENAMETOOLONG. */
+   To open a file whose name has more octets, and to give one such a name, is refused with ENAMETOOLONG. */
 
 #include "next.h"
 #include <errno.h>
@@ -53,6 +53,13 @@ int openat(int folder, const char *path, int flags, ...)
 int rename(const char *from, const char *to)
 {
     NEXT(rename);
+
+    return is_long(to) ? refused() : next(from, to);
+}
+
+int link(const char *from, const char *to)
+{
+    NEXT(link);
 
     return is_long(to) ? refused() : next(from, to);
 }

@@ -89,6 +89,10 @@ pub trait Device {
 
     fn count(&self) -> u64
         ensures { result ≡ 0 };
+
+    /// Is refused or not.
+    fn flush(&mut self) -> Result<(), Fault>
+        ensures { Flushed 3 };
 }
 
 /// Real.
@@ -165,6 +169,19 @@ def test_what_is_not_opened(sources):
     assert named(statement.ordered(sources, [kept], [], [hidden])) == ["Step", "Event", "Hidden", "Kept"]
 
 
+def test_what_is_read(sources):
+    """Of a type those fields and variants are printed of which something speaks, and no type that only others name."""
+    kind = sources.declared("low", "Kind")
+    assert sources.lines_read(kind, {"One"}) == ["/// A kind.", "pub enum Kind {", "    One(Far), // The only one.", "}"]
+    assert sources.lines_read(kind, set()) == [
+        "/// A kind.", "pub enum Kind {", "    // and 1 more, of which nothing here speaks", "}"]
+    assert named(sources.named(kind)) == ["Far"] and named(sources.named(kind, set())) == []
+    law = Thing("high", "specs/Law.antt", "Law")
+    assert "Far" not in named(statement.ordered(sources, [law], [], read={}))
+    assert "Far" in named(statement.ordered(sources, [law], [], read={kind: {"One"}}))
+    assert sources.read_in(law, ["-- .no One", "f x = x.one.two; record x { three = y.4 }"])[0] == {"one", "two", "three"}
+
+
 def test_contracts(sources):
     """A law is printed with its signature and clauses, and without its body."""
     _, lines = statement.contract_of(sources, "high:law")
@@ -176,10 +193,15 @@ def test_axioms(sources):
     no contract."""
     programs = axioms.Programs(sources, ["low", "high"])
     assert [line.split() for line in axioms.assumptions(programs) if line] == [
-        "Real, a Device (crates/high/src/device.rt): 1 clauses are assumed, 2 are proved".split(),
+        "Real, a Device (crates/high/src/device.rt): 1 clauses are assumed, 3 are proved".split(),
         "1 read reads Hidden { }".split()]
     assert list(axioms.premises(programs)) == ["  Over, a Device (crates/high/src/device.rt): λ d. D.sound d.0"]
-    assert list(axioms.uncovered_code(programs)) == ["  high 6: device.rt 6", "  6 lines in all"]
+    assert list(axioms.excuses(programs)) == ["  Device: flush may be refused"]
+    assert list(axioms.uncovered_code(programs)) == ["  high 6: device.rt 6", "  6 lines in all, of 19 of functions"]
+    assert [axioms.PINS_NOTHING.fullmatch(clause) is None for clause in (
+        "result ≡ 3", "IsTrue result ↔ a.now < 3", "IfErr result (λ e. e ≡ found.now)", "result ≤ 2", "Tallies a b c",
+        "IfErr result (λ e. e ≡ Fault.Refused)", "IsTrue result → length a.now ≤ 4",
+    )] == [True, True, True, False, False, False, False]
     assert axioms.handles(programs) == ["  Net of high: bare"]
     assert list(programs.unproved()) == []
     hole = sources.top / "crates/low/proofs/Hole.antt"
@@ -192,10 +214,11 @@ def test_this_tree():
     """In the text over this tree each name comes after what it names, once, and no name of the files' `use` is left out."""
     whole = statement.Statement(Sources())
     read = set()
-    for thing in [*whole.definitions, *(each for _, things in whole.traits for each in things), *whole.of_calls]:
+    for thing in (each for part in whole.parts for each in part.things() if not whole.sources.is_trait(each)):
         assert thing not in read, thing
-        named_by = whole.sources.named_in_type if thing in whole.unopened else whole.sources.named
-        late = [name for name in named_by(thing) if name not in read and not whole.sources.is_trait(name)]
+        named_by = (whole.sources.named_in_type(thing) if thing in whole.unopened
+                    else whole.sources.named(thing, whole.read.get(thing, set())))
+        late = [name for name in named_by if name not in read and not whole.sources.is_trait(name)]
         assert not late, f"{thing} names {late}, which comes later, or has a local name like that"
         read.add(thing)
         if thing.file.startswith("specs/"):
@@ -204,6 +227,12 @@ def test_this_tree():
             for word in re.findall(r"(?<![.\w'])[A-Z]\w*", code):
                 found = word in uses and whole.sources.found(*uses[word])
                 assert not found or found in read or whole.sources.is_trait(found), (thing, word)
+
+
+def test_excuses():
+    """Each definition that is said to excuse a device is one that a trait's clauses lead to."""
+    said = "\n".join(axioms.excuses(axioms.Programs(Sources(), axioms.crates_of(axioms.PROGRAMS))))
+    assert not [name for name in axioms.EXCUSES if f"(`{name}`)" not in " ".join(said.split())]
 
 
 def old_texts():
@@ -217,9 +246,10 @@ def old_texts():
 def main():
     with tempfile.TemporaryDirectory() as folder:
         sources = small_tree(folder)
-        for test in (test_order, test_what_is_not_opened, test_contracts, test_axioms):
+        for test in (test_order, test_what_is_not_opened, test_what_is_read, test_contracts, test_axioms):
             test(sources)
     test_this_tree()
+    test_excuses()
     faults = list(old_texts())
     print(*faults or ["docs/STATEMENT.txt, docs/AXIOMS.txt and NOTICES are what the sources say"], sep="\n")
     return 1 if faults else 0

@@ -3,10 +3,11 @@
        cc -O1 -shared -fPIC -o watch_files.so watch_files.c -ldl
        WATCH_NOTE=note WATCH_REFUSED=2 LD_PRELOAD=./watch_files.so PROGRAM ..
 
-   Each write, fsync, rename and unlink adds a line to the file `note`: its word, how many bytes were written or the
-   word `refused` or `failed` or `done`, and the paths, with tabs between. A write to a regular file takes the first
-   half of its bytes only, so that the program has to write the rest itself. Of the calls of fsync and rename the
-   second, here, answers -1 with EIO and does nothing; without WATCH_REFUSED none is refused. */
+   Each write, fsync, link, rename and unlink adds a line to the file `note`: its word, how many bytes were written or
+   the word `refused` or `failed` or `done`, and the paths, with tabs between. A write to a regular file takes the first
+   half of its bytes only, so that the program has to write the rest itself. Of the calls of fsync, link and rename the
+   second, here, answers -1 with EIO and does nothing; without WATCH_REFUSED none is refused. With WATCH_NO_LINKS each
+   call of link fails, and isn't counted, as on a file system that has no second names. */
 
 #include "note.h"
 
@@ -28,7 +29,7 @@ static void write_down(const char *word, const char *outcome, const char *first,
         abort();
 }
 
-/* Counts a call of fsync or rename, and answers whether it is the one to refuse. */
+/* Counts a call of fsync, link or rename, and answers whether it is the one to refuse. */
 static int is_refused(void)
 {
     if (++calls_seen != refused_call)
@@ -70,16 +71,33 @@ int fsync(int descriptor)
     return answer;
 }
 
-int rename(const char *from, const char *to)
+/* Gives a file another name by this call of the system. */
+static int named(const char *word, int (*next)(const char *, const char *), const char *from, const char *to)
 {
-    NEXT(rename);
     int refused = is_refused();
     int answer = refused ? -1 : next(from, to);
     int fault = errno;
 
-    write_down("rename", refused ? "refused" : outcome_of(answer), from, to);
+    write_down(word, refused ? "refused" : outcome_of(answer), from, to);
     errno = fault;
     return answer;
+}
+
+int rename(const char *from, const char *to)
+{
+    NEXT(rename);
+    return named("rename", next, from, to);
+}
+
+int link(const char *from, const char *to)
+{
+    NEXT(link);
+
+    if (!getenv("WATCH_NO_LINKS"))
+        return named("link", next, from, to);
+    write_down("link", "failed", from, to);
+    errno = EPERM;
+    return -1;
 }
 
 int unlink(const char *path)

@@ -1,6 +1,7 @@
 #!/usr/bin/env python3
 """Prints what the proofs of the programs trust, found in the sources: what is assumed of the devices of which nothing is
-known, the premises of the others, the code that no contract covers, the kit's crates, the handles and the toolchain.
+known, the premises of the others, what else excuses a device, the code that no contract covers, the kit's crates, the
+handles and the toolchain.
 
     python3 tools/axioms.py                   # the text, which is docs/AXIOMS.txt
 """
@@ -11,7 +12,7 @@ import sys
 import textwrap
 from typing import NamedTuple
 
-from sources import TOP, Sources, without_comments
+from sources import TOP, Sources, without_comments, words_of
 
 sys.path.insert(0, str(TOP))
 
@@ -24,18 +25,40 @@ FUNCTION = re.compile(r"^( *)(?:pub(?:\([a-z]+\))? )?(?:const )?fn (\w+)", re.MU
 TRAIT = re.compile(r"^(?:pub(?:\(crate\))? )?trait (\w+)(?:<[^>]*>)?(?:: ([^{;]*))?[^{;]*\{", re.MULTILINE)
 HANDLE = re.compile(r"\b(Threads|Wait|Net|Processes)\b[<+ ]")
 NAMES_PREMISE = re.compile(r"\bsound\b")
+# Clauses that don't say what a function does: a count of refusals, which faults there are, a bound, or what is known of a
+# device of which nothing is known.
+PINS_NOTHING = re.compile(r"Tallies .*|self\.new ≡ record self\.old \{ failures = self\.new\.failures \}"
+                          r"|IfErr result (?:IsDeviceFault|\(λ (\w+)\. \1 ≡ [A-Z][\w.]*\))|.* ≡ unknown_\w+"
+                          r"|[^≡↔×≢→]*(?:→[^≡↔×≢→]*)? [≤<] [^≡↔×≢→]*")
 
 ASSUMED = """\
 1. Devices of which nothing is known: `sound`, their premise, is ⊥. The code over them is generic, and proved for each
    device that does what its trait says. So each clause of the trait that holds only where `sound` does is assumed of
    them. It is printed without the words `sound self.new → sound self.old ×` before it. docs/STATEMENT.txt has the
-   traits of fetching and what their names mean."""
+   traits of fetching and what their names mean. What can't be opened may come to the folders and go at any
+   moment, so no clause says where such names (`closed_new`, `closed_cur`) come from. Of HostFolders it is assumed that
+   a listing shows exactly those that are there then (`ListsIn`): a message whose name is one isn't fetched. All that is
+   above HostFolders is proved to tell just these."""
 PREMISES = """\
 2. The premises of the other devices. What their traits say is proved, for one over another device as far as that one
    does what its trait says."""
+EXCUSED = """\
+3. What else excuses a device. No clause says when a call is refused, so each of these may always be: then what is above
+   does nothing more. What a device may put down to others is in the definitions named here."""
+EXCUSES = {
+    "Receives": "the other end has closed the link",
+    "WereTaken": "mail readers took files away",
+    "Moved": "others moved, marked or took away files",
+    "ToldAreOdd": "what can't be opened bears a name that is sought",
+    "ShowsOdd": "what can't be opened bears a name that is sought",
+    "TellsRest": "a folder didn't rest",
+    "Flushes": "a stem has no file any more",
+    "FlushesFiles": "a stem has no file any more",
+}
 UNCOVERED = """\
-3. Code that no contract covers: the lines, without comments and empty ones, of functions that have no contract of
-   their own, and of which no trait says anything, or only what 1 assumes."""
+4. Code that no contract covers: the lines, without comments and empty ones, of functions that have no contract of
+   their own, and of which no trait says anything, or only what 1 assumes. A clause that only counts refusals, or says
+   which faults there are, or gives a bound, or speaks of a state of which nothing is known, is no cover."""
 
 
 class Function(NamedTuple):
@@ -46,8 +69,15 @@ class Function(NamedTuple):
     clauses: list
     text: str
 
-    def is_covered(self):
-        return any(kind == "ensures" for kind, _, _ in self.clauses)
+    def pins(self):
+        """The clauses that say what it does."""
+        return [text for kind, _, text in self.clauses if kind == "ensures" and not PINS_NOTHING.fullmatch(text)]
+
+    def may_be_refused(self):
+        return re.search(r"-> (?:io::)?Result<", self.text)
+
+    def lines(self):
+        return sum(line.strip() != "" for line in self.text.splitlines())
 
 
 class Impl(NamedTuple):
@@ -115,6 +145,10 @@ class Programs:
         self.traits = {found[1]: functions_in(braced(text, found.end() - 1) + "\n") for found, text in traits}
         self.above = {found[1]: re.findall(r"\w+", found[2] or "") for found, _ in traits}
         self.impls = {(impl.type, impl.trait): impl for text in self.files.values() for impl in impls_in(text)}
+        specs = [(crate, f"specs/{file.name}") for crate in crates
+                 for file in (self.top / "crates" / crate / "specs").glob("*.antt")]
+        self.named = {name: words_of(lines) for crate, file in specs
+                      for name, lines in sources.definitions(crate, file).lines.items()}
 
     def premise(self, impl):
         """What the impl says of `sound`, or that of a trait above."""
@@ -133,19 +167,32 @@ class Programs:
         return [(function.name, label, text) for function in self.traits[impl.trait]
                 for kind, label, text in function.clauses if kind == "ensures"]
 
-    def is_said_by_trait(self, impl, function):
-        """Whether the trait says something of the function, and all of it is proved of this type."""
-        clauses = [text for each in self.traits.get(impl.trait, ()) if each.name == function.name
-                   for kind, _, text in each.clauses if kind == "ensures"]
-        is_assumed = self.premise(impl) == UNKNOWN and any(map(NAMES_PREMISE.search, clauses))
-        return impl.at <= function.at < impl.at + len(impl.text) and clauses != [] and not is_assumed
+    def reached(self, trait):
+        """The definitions that the clauses of a trait lead to."""
+        found, left = set(), list(words_of([text for function in self.traits[trait] for _, _, text in function.clauses]))
+        while left:
+            word = left.pop()
+            if word not in found and word in self.named:
+                found.add(word)
+                left += self.named[word]
+        return found
 
-    def uncovered(self, text):
-        """How many lines the functions of a file have that have no contract."""
+    def is_covered(self, impls, function):
+        """Whether its own clauses, or else those of its trait, say what the function does, and aren't only assumed."""
+        clauses = function.pins()
+        if not (impl := next((impl for impl in impls if impl.at <= function.at < impl.at + len(impl.text)), None)):
+            return clauses != []
+        clauses = clauses or [text for each in self.traits.get(impl.trait, ()) if each.name == function.name
+                              for text in each.pins()]
+        is_assumed = self.premise(impl) == UNKNOWN and any(map(NAMES_PREMISE.search, clauses))
+        return clauses != [] and not is_assumed
+
+    def covered_lines(self, text):
+        """How many lines the functions of a file have that no contract covers, and all of them."""
         impls = list(impls_in(text))
-        bare = [function for function in functions_in(text) if not function.is_covered() and not function.text.endswith(";")
-                and not any(self.is_said_by_trait(impl, function) for impl in impls)]
-        return sum(sum(line.strip() != "" for line in function.text.splitlines()) for function in bare)
+        functions = [function for function in functions_in(text) if not function.text.endswith(";")]
+        return (sum(function.lines() for function in functions if not self.is_covered(impls, function)),
+                sum(function.lines() for function in functions))
 
     def unproved(self):
         """The files with an axiom, a hole, unsafe code or code of another language."""
@@ -177,16 +224,28 @@ def premises(programs):
             yield f"  {impl.type}, a {impl.trait} ({place}): {premise}"
 
 
+def excuses(programs):
+    """What each trait of a device lets be refused, or put down to others."""
+    for trait in dict.fromkeys(impl.trait for impl, _ in programs.devices()):
+        calls = [function.name for function in programs.traits[trait] if function.may_be_refused()]
+        reached = programs.reached(trait)
+        said = [f"{', '.join(calls)} may be refused"] if calls else []
+        said += [f"{words} (`{name}`)" for name, words in EXCUSES.items() if name in reached]
+        yield from textwrap.wrap(f"{trait}: {'; '.join(said) or 'nothing'}", 118, initial_indent="  ", subsequent_indent="    ")
+
+
 def uncovered_code(programs):
-    """A paragraph for each crate that has such code, and how many lines there are in all."""
-    lines = {}
+    """A paragraph for each crate that has such code, and how many lines there are in all, of how many."""
+    lines, of_all = {}, 0
     for (crate, file), text in programs.files.items():
-        if count := programs.uncovered(text):
+        count, whole = programs.covered_lines(text)
+        of_all += whole
+        if count:
             lines.setdefault(crate, {})[file.removeprefix("src/")] = count
     for crate, files in lines.items():
         text = f"{crate} {sum(files.values()):,}: " + ", ".join(f"{file} {count}" for file, count in files.items())
         yield from textwrap.wrap(text, 118, initial_indent="  ", subsequent_indent="    ")
-    yield f"  {sum(sum(files.values()) for files in lines.values()):,} lines in all"
+    yield f"  {sum(sum(files.values()) for files in lines.values()):,} lines in all, of {of_all:,} of functions"
 
 
 def kit_crates():
@@ -212,11 +271,12 @@ def text_of(top=TOP):
     kit = subprocess.run(["rt", "version"], check=True, capture_output=True, text=True).stdout.strip()
     return "\n".join([
         f"What the proofs of {' and '.join(PROGRAMS)} trust, from the sources: `make axioms` prints this text.", "",
-        ASSUMED, *assumptions(programs), "", PREMISES, *premises(programs), "", UNCOVERED, *uncovered_code(programs), "",
-        "4. The kit's crates that each program is linked with, whose statements are trusted:", *kit_crates(), "",
-        f"5. {(top / 'HANDLES').read_text().strip()} Functions that have one:", *handles(programs), "",
-        f"6. Files with an axiom, a hole or unsafe code: {', '.join(programs.unproved()) or 'none'}.",
-        f"7. The toolchain: {kit}. The C library, LLVM and the operating system are trusted with it.", ""])
+        ASSUMED, *assumptions(programs), "", PREMISES, *premises(programs), "", EXCUSED, *excuses(programs), "",
+        UNCOVERED, *uncovered_code(programs), "",
+        "5. The kit's crates that each program is linked with, whose statements are trusted:", *kit_crates(), "",
+        f"6. {(top / 'HANDLES').read_text().strip()} Functions that have one:", *handles(programs), "",
+        f"7. Files with an axiom, a hole or unsafe code: {', '.join(programs.unproved()) or 'none'}.",
+        f"8. The toolchain: {kit}. The C library, LLVM and the operating system are trusted with it.", ""])
 
 
 if __name__ == "__main__":

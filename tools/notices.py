@@ -14,11 +14,12 @@ from sources import TOP
 from build import crates_of
 
 BELOW = {"strsim", "unicode_segmentation", "ucd_breaks"}
+SILENT = {"std", "libc", "os"}
 # A crate has one or two of these. Where it may be taken under one of two licences, this is the shorter one.
 LICENCES = ("LICENSE", "LICENSE-MIT", "LICENSE-UNICODE")
 BEGINNING = """\
-The programs contain code of these crates of the Rattle kit, each with its notice, and of the kit's core and std, of
-which the kit has no notice."""
+The programs contain code of these crates of the Rattle kit, each with its notice, and of the kit's core, std, libc and
+os, of which the kit has no notice."""
 
 
 def texts():
@@ -27,7 +28,7 @@ def texts():
     lines = crates_of(PROGRAMS)
     named = {library for line in lines.values() for library in line.partition(":")[2].split()} - set(lines)
     notices = {}
-    for crate in sorted((named | BELOW) - {"std"}):
+    for crate in sorted((named | BELOW) - SILENT):
         paths = [path for path in (kit / crate / name for name in LICENCES) if path.is_file()]
         if not paths:
             raise SystemExit(f"no notice of {crate}")

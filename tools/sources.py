@@ -13,6 +13,7 @@ TOP = Path(__file__).resolve().parent.parent
 USE = re.compile(r"^\s*(?:ghost )?use Rattle\.([^{;\n]*\{\n.*?^\s*\}|[^;\n]*)", re.MULTILINE | re.DOTALL)
 BEGINS = re.compile(r"(?:(?:pub|opaque|unfoldable) )*(?:abbrev|def|data|record) (?:pub )?(\S+)"
                     r"|(?:(?:pub|opaque|unfoldable) )+(\S+) :")
+MEMBERS = re.compile(r"pub (?:struct|enum) .*{$")
 WORD = re.compile(r"(?<![.\w'])[A-Za-z_][\w']*")
 
 
@@ -111,6 +112,13 @@ def without_gaps(lines):
     return kept
 
 
+def on_one_line(lines):
+    """A field or a variant with its comment behind it, if both fit on a line."""
+    if len(lines) == 2 and len(joined := f"{lines[1]} // {lines[0].strip().removeprefix('/// ')}") <= 120:
+        return [joined]
+    return lines
+
+
 class Sources:
     """The sources of a tree."""
 
@@ -171,11 +179,53 @@ class Sources:
         value = self.value(thing)
         return item if value is None else [*item, f"// contracts see it as {{{value}}}"]
 
+    def members(self, thing):
+        """The fields or variants that a type of the sources has, each with its lines, comments before it included; none if
+        it isn't written line by line, or if contracts see it as something else."""
+        lines = [] if thing.file.startswith("specs/") or self.value(thing) else self.lines(thing)
+        found, before = {}, []
+        for line in lines[1 + next((at for at, line in enumerate(lines) if MEMBERS.match(line)), len(lines)):-1]:
+            before.append(line)
+            if member := re.match(r"    (?:pub(?:\(crate\))? )?(\w+)\b[^/]*,$", line):
+                found[member[1]], before = before, []
+        return found
+
+    def lines_read(self, thing, read):
+        """The lines of a type of the sources with those fields or variants alone that are read, and how many others it has."""
+        members, lines = self.members(thing), self.lines(thing)
+        if not members:
+            return lines
+        first = next(at for at, line in enumerate(lines) if MEMBERS.match(line))
+        shown = [line for name, each in members.items() if name in read for line in on_one_line(each)]
+        others = sum(name not in read for name in members)
+        more = [f"    // and {others} more, of which nothing here speaks"] if others else []
+        return [*lines[:first + 1], *shown, *more, lines[-1]]
+
+    def read_in(self, thing, lines):
+        """The names of fields that lines read or set, and the variants that they name, each with its type."""
+        code = re.sub(r"(?:--|//).*", "", "\n".join(lines))
+        fields = set(re.findall(r"\.([a-z_]\w*)", code)) | set(re.findall(r"[{;]\s*([a-z_]\w*) = ", code))
+        text = self.text(thing.crate, thing.file)
+        uses = self.definitions(thing.crate, thing.file).uses if thing.file.startswith("specs/") else uses_in(text)
+        variants = set()
+        for front, word in re.findall(r"(?<![\w.])(?:(\w+)\.)?([A-Z]\w*)", code):
+            crate, module, last = uses.get(front or word, ("", "", ""))
+            if front and last == "TheVariants":
+                variants.add((self.found(crate, module, word), word))
+            elif front and uses.get(front):
+                variants.add((self.found(crate, module, last), word))
+            elif front:
+                variants.add((self.type_named(thing, text, front), word))
+            elif "TheVariants" in module:
+                variants.add((self.found(crate, module, word), last))
+        return fields, variants
+
     def type_lines(self, thing):
         """The lines of a definition up to its type, without what it is made of."""
         lines = self.lines(thing)
         body = re.compile(rf"{re.escape(thing.name)} .*=")
-        return lines[:next(at for at, line in enumerate(lines) if body.match(line))]
+        return lines[:next(at + line.endswith(" where") for at, line in enumerate(lines)
+                           if body.match(line) or line.endswith(" where"))]
 
     def value(self, thing):
         """What contracts see of a type, if that isn't its fields."""
@@ -183,12 +233,15 @@ class Sources:
                           re.MULTILINE | re.DOTALL)
         return model and re.search(r"ghost Value = \{(.*?)\};", model[1], re.DOTALL)[1]
 
-    def named(self, thing):
-        """What a definition, a type or a trait names, in the order in which it does."""
+    def named(self, thing, read=None):
+        """What a definition, a type or a trait names, in the order in which it does; of a type only what those fields or
+        variants name that are read, if it is said which."""
         if thing.file.startswith("specs/"):
             found = self.named_in_lines(thing, self.lines(thing))
+        elif self.value(thing):
+            found = self.named_in(thing, [self.value(thing)])
         else:
-            found = self.named_in(thing, [self.value(thing)] if self.value(thing) else self.lines(thing))
+            found = self.named_in(thing, self.lines(thing) if read is None else self.lines_read(thing, read))
         return [each for each in dict.fromkeys(found) if each and each != thing]
 
     def named_in_type(self, thing):
@@ -206,7 +259,8 @@ class Sources:
     def named_in(self, thing, lines):
         """What lines of the sources name: definitions that the file uses, and types of its own or of other files."""
         text = self.text(thing.crate, thing.file)
-        uses, words = uses_in(text), dict.fromkeys(WORD.findall(without_comments("\n".join(lines))))
+        code = re.sub(r"^(\s+(?:pub(?:\(crate\))? )?)\w+:(?!:)", r"\1:", without_comments("\n".join(lines)), flags=re.MULTILINE)
+        uses, words = uses_in(text), dict.fromkeys(WORD.findall(code))
         return [self.found(*uses[word]) if word in uses else self.type_named(thing, text, word) for word in words]
 
     def type_named(self, thing, text, word):

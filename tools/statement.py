@@ -1,37 +1,85 @@
 #!/usr/bin/env python3
-"""Prints what is promised, as one text in the order of use: every definition and type of the sources that the laws are made
-of, each before what uses it, the traits of the devices with theirs, and last the laws and the calls that they are about.
+"""Prints what is promised, as one text in parts, each in the order of use: every definition of the sources that the laws of a
+part are made of, each before what uses it, the types with those fields and variants of which one of them speaks, the traits
+of the devices with theirs, and last the laws and the calls that they are about.
 
     python3 tools/statement.py                # the text, which is docs/STATEMENT.txt
     python3 tools/statement.py --counts       # only its last lines: how long it is
 """
 
+import re
 import sys
+from typing import NamedTuple
 
 from sources import TOP, Sources, Thing
 
-# What is promised: crate and function.
-LAWS = ["fetch_runs:calls_keep_promises", "fetch_runs:mbox_calls_keep_promises", "fetch_record:files_stand_for_one_record"]
-# The calls that the laws are about.
-CALLS = ["fetch_runs:promised_session"]
-# The devices of a call, and those that the real ones are made over.
-TRAITS = ["pop3_wire:Wire", "mail_store:MaildirDisk", "mail_store:FlatFile",
-          "folder_store:NewFile", "folder_store:FolderState", "folder_store:FileFolder", "folder_store:MailFolders"]
+class Part(NamedTuple):
+    """A part of the text, which needs only those before it: what it has besides its definitions. A law or a call is a crate
+    and a function, a trait a crate and a name, and a definition a crate, a module of its `specs` and a name."""
+
+    title: str
+    words: str
+    laws: tuple = ()
+    calls: tuple = ()
+    traits: tuple = ()
+    definitions: tuple = ()
+
+
+PARTS = [
+    Part("In any order", """\
+What is promised of any list of calls, under any limits: with a Maildir, and with an mboxrd file.""",
+         laws=("fetch_runs:calls_keep_promises", "fetch_runs:mbox_calls_keep_promises")),
+    Part("In order", """\
+What is promised if a server shows its mail in one order, under one limit on sizes.""",
+         laws=("fetch_runs:headline", "fetch_runs:mbox_headline")),
+    Part("What isn't opened", """\
+The contract by which a call of `session` is one that these laws speak of; and that a record's bytes stand for one record.""",
+         laws=("fetch_record:files_stand_for_one_record",), calls=("fetch_session:promised_session",)),
+    Part("The devices", """\
+What each call of a device does while its `sound` holds: of a link, a Maildir and a file, over which calls of `session` are
+made; then of the folders over which the real Maildir and files are made.""",
+         traits=("pop3_wire:Wire", "mail_store:MaildirDisk", "mail_store:FlatFile", "folder_store:NewFile",
+                 "folder_store:FolderState", "folder_store:FileFolder", "folder_store:MailFolders")),
+    Part("Kills", """\
+What 1 and 2 say holds over a link and devices of which each refuses all calls from some call on. Each call of `FusedWire` does
+what `BurnsForLink` says, and each of `Fused` what `Fuses` says.""",
+         laws=("local_fetch:killed_calls_keep_promises",),
+         definitions=("test_devices:LinkFuse:BurnsForLink", "test_devices:LinkFuse:fused_link",
+                      "test_devices:LinkFuse:fused_is_sound", "test_devices:StoreFuse:Fuses",
+                      "test_devices:StoreFuse:fused_maildir", "test_devices:StoreFuse:fused_file",
+                      "test_devices:StoreFuse:FusedIsSound")),
+    Part("That it happens", """\
+Over a server, folders and files in memory: losses of power happen; and a session in which nothing fails ends, and has
+stored the message that the server had.""",
+         laws=("local_fetch:losses_happen", "local_fetch:one_is_stored_in_memory")),
+    Part("That it ends well", """\
+Calls over a maildrop that stays record all its messages in the end; what 1 and 2 say, and this, holds of the visits of
+`run_sessions`; and a message of a maildrop from which calls delete is always there, or held, or was taken away.""",
+         laws=("fetch_runs:calls_get_far", "fetch_runs:mbox_calls_get_far", "fetch_runs:visits_keep_promises",
+               "local_fetch:mail_is_moved")),
+]
 # Definitions that nobody has to open: only what they are of is printed, and what they are made of is left out.
-UNOPENED = ["fetch_runs:Calls:WasMade", "fetch_record:RecordMeaning:StandsFor"]
+UNOPENED = ["fetch_session:Visits:WasMade", "fetch_record:RecordMeaning:StandsFor",
+            "local_fetch:Local:WasFetchedLocally"]
+# The law that README quotes.
+QUOTED = "fetch_runs:headline"
 
 INTRODUCTION = """\
 What is proved of fetching, from the sources: `make statement` prints this text. Each name is explained before it is
-used, except those of the standard library and of the kit's crates. docs/HEADLINE.md says how to read it."""
+used, except those of the standard library and of the kit's crates. docs/HEADLINE.md says how to read it. Each part needs
+only those before it, of which part 1 is the longest."""
 NOT_OPENED = "-- (what it is made of is left out: docs/HEADLINE.md says why)"
 
 
-def ordered(sources, roots, known, unopened=()):
-    """All that the roots name, each after what it names itself, without what is known and without traits."""
+def ordered(sources, roots, known, unopened=(), read=None):
+    """All that the roots name, each after what it names itself, without what is known and without traits. Of types of the
+    sources only those fields and variants count that are read, if it is said which: {type: names}."""
     order, seen = [], set(known)
 
     def named(thing):
-        return sources.named_in_type(thing) if thing in unopened else sources.named(thing)
+        if thing in unopened:
+            return sources.named_in_type(thing)
+        return sources.named(thing, None if read is None else read.get(thing, set()))
 
     def visit(thing):
         if thing in seen or sources.is_trait(thing):
@@ -55,29 +103,67 @@ def heading(number, text):
     return ["=" * 100, f"{number}. {text}", "=" * 100, ""]
 
 
+def quotation(top):
+    """The sentence that README quotes."""
+    lines = (top / "README.md").read_text().splitlines()
+    return [line.removeprefix("> ") for line in lines if line.startswith("> ")]
+
+
+class Found:
+    """What a part has: its definitions, its traits with theirs, and its contracts."""
+
+    def __init__(self, sources, part, known, unopened, read):
+        def learned(roots):
+            order = ordered(sources, roots, known, unopened, read)
+            known.extend(order)
+            return order
+
+        self.part = part
+        self.contracts = [contract_of(sources, name) for name in (*part.laws, *part.calls)]
+        # What a device is made of is not part of what is said of it.
+        named = [each for thing, lines in self.contracts
+                 for each in sources.named_in(thing, [re.sub(r"⟦[^⟧]*⟧", "", "\n".join(lines))]) if each]
+        more = [specs_thing(name) for name in part.definitions]
+        self.definitions = learned([*more, *named])
+        self.traits = [(trait, learned(sources.named(trait)))
+                       for trait in (sources.declared(*name.split(":")) for name in part.traits)]
+
+    def things(self):
+        yield from self.definitions
+        for trait, more in self.traits:
+            yield from (*more, trait)
+
+
+def specs_thing(name):
+    crate, module, last = name.split(":")
+    return Thing(crate, f"specs/{module}.antt", last)
+
+
 class Statement:
     """What the text is made of, each part in the order in which it is read."""
 
     def __init__(self, sources):
-        self.sources = sources
-        self.laws = [contract_of(sources, name) for name in LAWS]
-        self.calls = [contract_of(sources, name) for name in CALLS]
-        self.unopened = [Thing(crate, f"specs/{module}.antt", name)
-                         for crate, module, name in (each.split(":") for each in UNOPENED)]
-        self.known = []
-        self.definitions = self.learned(self.named_by(self.laws))
-        self.traits = [(trait, self.learned(sources.named(trait)))
-                       for trait in (sources.declared(*name.split(":")) for name in TRAITS)]
-        self.of_calls = self.learned(self.named_by(self.calls))
+        self.sources, self.read = sources, {}
+        self.unopened = [specs_thing(name) for name in UNOPENED]
+        while True:
+            known = []
+            self.parts = [Found(sources, part, known, self.unopened, self.read) for part in PARTS]
+            if (read := self.read_by()) == self.read:
+                break
+            self.read = read
 
-    def learned(self, roots):
-        """What has to be read for these after all that was read before."""
-        order = ordered(self.sources, roots, self.known, self.unopened)
-        self.known += order
-        return order
-
-    def named_by(self, contracts):
-        return [named for thing, lines in contracts for named in self.sources.named_in(thing, lines) if named]
+    def read_by(self):
+        """Of each type the fields and variants of which something here speaks."""
+        fields, variants = set(), set()
+        for part in self.parts:
+            for thing, lines in [*((each, self.lines(each)) for each in part.things()), *part.contracts]:
+                if thing.file.startswith("specs/") or self.sources.is_trait(thing) or (thing, lines) in part.contracts:
+                    more = self.sources.read_in(thing, lines)
+                    fields |= more[0]
+                    variants |= more[1]
+        return {thing: fields | {name for of, name in variants if of == thing}
+                for part in self.parts for thing in part.things()
+                if not thing.file.startswith("specs/") and not self.sources.is_trait(thing)}
 
     def printed(self, things):
         """The lines of things, with their file's name where it changes."""
@@ -92,35 +178,37 @@ class Statement:
     def lines(self, thing):
         if thing in self.unopened:
             return [*self.sources.type_lines(thing), NOT_OPENED]
-        return self.sources.lines(thing)
+        if thing.file.startswith("specs/") or self.sources.is_trait(thing):
+            return self.sources.lines(thing)
+        return self.sources.lines_read(thing, self.read.get(thing, set()))
 
-    def printed_contracts(self):
-        for thing, lines in [*self.laws, *self.calls]:
-            yield from (f"// ---------- crates/{thing.crate}/{thing.file}", "", *lines, "")
+    def printed_contracts(self, part):
+        for thing, lines in part.contracts:
+            yield from (f"// ---------- crates/{thing.crate}/{thing.file}", "")
+            if f"{thing.crate}:{thing.name}" == QUOTED:
+                yield from ("// README.md quotes it so:", *(f"// > {line}" for line in quotation(self.sources.top)), "//")
+            yield from (*lines, "")
 
     def length(self, things, folder="specs/"):
         return sum(len(self.lines(thing)) for thing in things if thing.file.startswith(folder))
 
     def counts(self):
         """How many lines there are of what. Those of comments count."""
-        lines, types = self.length(self.definitions), self.length(self.definitions, "src/")
-        files = len({thing[:2] for thing in self.definitions if thing.file.startswith("specs/")})
-        yield f"{lines:,} lines of definitions in {files} files, and {types:,} of types of the sources, for the laws"
-        for trait, things in self.traits:
-            own, more, types = len(self.sources.lines(trait)), self.length(things), self.length(things, "src/")
-            lines += own + more
-            yield (f"{own:,} of the trait {trait.name}, {more:,} of further definitions, {types:,} of types: "
-                   f"{lines:,} of definitions and traits so far")
-        more, types = self.length(self.of_calls), self.length(self.of_calls, "src/")
-        yield f"{more:,} of further definitions and {types:,} of types for the calls"
+        whole = 0
+        for number, part in enumerate(self.parts, 1):
+            things = list(part.things())
+            types = sum(len(self.lines(each)) for each in things if each.file.startswith("src/"))
+            definitions, contracts = self.length(things), sum(len(lines) for _, lines in part.contracts)
+            whole += definitions + types + contracts
+            yield (f"Part {number}: {definitions:,} lines of definitions, {types:,} of types and traits of the sources, "
+                   f"{contracts:,} of contracts: {whole:,} so far")
 
     def text(self):
-        traits = [line for trait, things in self.traits for line in self.printed([*things, trait])]
-        return "\n".join([INTRODUCTION, "",
-                          *heading(1, "What the laws are made of"), *self.printed(self.definitions),
-                          *heading(2, "The devices: what each call of one does while `sound` holds of it"), *traits,
-                          *heading(3, "The laws, and the contract by which a call meets them"), *self.printed(self.of_calls),
-                          *self.printed_contracts(), *self.counts(), ""])
+        lines = [INTRODUCTION, ""]
+        for number, part in enumerate(self.parts, 1):
+            lines += [*heading(number, part.part.title), part.part.words, "", *self.printed(part.things()),
+                      *self.printed_contracts(part)]
+        return "\n".join([*lines, *self.counts(), ""])
 
 
 def text_of(top=TOP):

@@ -285,8 +285,8 @@ def sessions_of(stage, source, limit):
     rows = [words[0] for words, _ in power.rows_of(stage.watch(*stage.scene.words))]
     after = [number for number, word in enumerate(rows, 1) if word not in ("send", "flush", "flush-folder")]
     if limit is not None and limit < len(after):
-        # Each rename is among them, since the next session relies on the files in `new`.
-        sure = [number for number in after if rows[number - 1] == "rename"]
+        # Each link is among them, since the next session relies on the files in `new`.
+        sure = [number for number in after if rows[number - 1] == "link"]
         rest = [number for number in after if number not in sure]
         after = sorted(sure + source.sample(rest, max(limit - len(sure), 0)))
     for number in after:

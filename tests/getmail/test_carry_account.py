@@ -1,57 +1,81 @@
-"""`examples/carry-account.py`: an account gets another server, port or user name, and nothing is fetched again."""
+"""`examples/carry-account.py`: an account gets another server, port or user name, and nothing is fetched again. Nobody else's
+mail, record or odd file is touched, whatever readers and runs do meanwhile."""
 
-import importlib.util
+import contextlib
+import errno
+import fcntl
 import os
 import subprocess
 import sys
 import tempfile
+import threading
 import unittest
 from pathlib import Path
 from unittest import mock
 
 from getmail.account import Account
+from getmail.carrying import EXAMPLES, FIRST, KEPT, OTHERS, Home, module, run_apart, run_here
 from getmail.mbox_account import MboxAccount
 from getmail.server import Server, SocketServer
-from harness import programs
+from harness import preload, programs
 from harness.kernel import LOOPBACK
 
-SCRIPT = programs.ROOT / "examples" / "carry-account.py"
-THREE = [(b"a", b"one\n"), (b"b/c", b"two\n"), (b"d", b"three\n")]
+# Whether a reader works before each of the calls, whatever it does.
+WHOLE = os.environ.get("TESTS_SCRIPTS") == "whole"
+NONE = ([], [], [])
+# Names that begin like those of the account, and are none that getmail gives.
+ODD_ENDS = (b"", b".", b".zz", b".6", b".6A", b".20", b".31.2", b".31\xff", b".31\n", b"." + b"31" * 71, b"31")
 
 
-def module():
-    """The script as a module, so that a call of it can be interrupted."""
-    spec = importlib.util.spec_from_file_location("carry_account", SCRIPT)
-    made = importlib.util.module_from_spec(spec)
-    with mock.patch.object(sys, "dont_write_bytecode", True):
-        spec.loader.exec_module(made)
-    return made
+class Meanwhile:
+    """Something is done, or a call is refused, at one of the calls that a script makes for the files below a folder: just before
+    it, or just after it."""
 
+    CALLS = ("listdir", "lstat", "stat", "open", "fsync", "link", "unlink", "replace")
 
-class Stop(BaseException):
-    """The script is killed here."""
+    def __init__(self, script, below, number, act, is_after=False):
+        self.script, self.below, self.left, self.act, self.is_after = script, str(below), number, act, is_after
 
+    def __enter__(self):
+        self.is_done = False
+        self.patched = [mock.patch.object(os, name, self.call(getattr(os, name))) for name in self.CALLS]
+        self.patched.append(mock.patch.object(self.script, "rename", self.call(self.script.rename)))
+        for patch in self.patched:
+            patch.start()
+        return self
 
-class Interrupted:
-    """The calls that change something or flush it; the one of this number doesn't return."""
-
-    def __init__(self, number):
-        self.left = number
+    def __exit__(self, *_):
+        for patch in self.patched:
+            patch.stop()
 
     def call(self, real):
-        def do(*words, **more):
-            if self.left == 0:
-                raise Stop
-            self.left -= 1
-            return real(*words, **more)
+        def do(first, *words, **more):
+            path = os.readlink(f"/proc/self/fd/{first}") if isinstance(first, int) else os.fspath(first)
+            self.left -= str(path).startswith(self.below)
+            if self.left != 0 or self.is_done:
+                return real(first, *words, **more)
+            self.is_done = True
+            answer = real(first, *words, **more) if self.is_after else None
+            for patch in self.patched:
+                patch.stop()
+            self.act(first)
+            for patch in self.patched:
+                patch.start()
+            return answer if self.is_after else real(first, *words, **more)
         return do
 
+    def is_over(self):
+        """Whether there were fewer calls."""
+        return self.left > 0
 
-class CarryAccount(unittest.TestCase):
+
+class OnSocket:
+    """Over a socket of the same server nothing that was stored comes again, and what is new comes."""
+
     KIND = Account
 
     def setUp(self):
-        self.server = self.enterContext(Server(THREE))
+        self.server = self.enterContext(Server(FIRST))
         self.path = Path(self.enterContext(tempfile.TemporaryDirectory())) / "socket"
 
     def session(self, server, account, *words):
@@ -60,131 +84,521 @@ class CarryAccount(unittest.TestCase):
         thread.join(programs.SECONDS)
         return server.commands
 
-    def words(self, account):
-        return ["-g", str(account.folder), LOOPBACK, str(self.server.port), "u", str(self.path), "110", "u", *self.places(account)]
-
-    def places(self, account):
-        return [str(account.maildir)]
-
-    def carried(self, account):
-        return subprocess.run([sys.executable, SCRIPT, *self.words(account)], capture_output=True, text=True,
-                              timeout=programs.SECONDS)
-
-    def check_goes_on(self, account, stored):
-        """Over the socket nothing that was stored comes again, and what is new comes."""
-        text = account.rcfile.read_text()
-        account.rcfile.write_text(text.replace(f"server = {LOOPBACK}", f"server = {self.path}")
-                                  .replace(f"port = {self.server.port}", "port = 110"))
-        with SocketServer(self.server.messages, self.path) as server:
-            commands = self.session(server, account)
-            self.assertEqual([command for command in commands if command.startswith("RETR")], [])
-            server.messages.append((b"e", b"four\n"))
-            self.assertIn(f"RETR {len(server.messages)}", self.session(server, account))
-        self.path.unlink()
-        self.assertEqual(self.stored(account), stored + 1)
-
-    def stored(self, account):
-        return sum(len(list((account.maildir / part).iterdir())) for part in ("new", "cur"))
-
     def test_nothing_is_fetched_again(self):
         with self.KIND(self.server.port) as account:
             self.session(self.server, account)
-            run = self.carried(account)
-            self.assertEqual((run.returncode, run.stderr), (0, ""))
-            self.check_goes_on(account, len(THREE))
+            run = run_apart("carry-account", "-g", account.folder, LOOPBACK, self.server.port, "u", self.path, 110, "u",
+                            *self.places(account))
+            self.assertEqual((run.status, run.err), (0, b""))
+            self.assertIn(b"Now remove the old rc file", run.out.splitlines()[-1])
+            text = account.rcfile.read_text()
+            account.rcfile.write_text(text.replace(f"server = {LOOPBACK}", f"server = {self.path}")
+                                      .replace(f"port = {self.server.port}", "port = 110"))
+            with SocketServer(self.server.messages, self.path) as server:
+                commands = self.session(server, account)
+                self.assertEqual([command for command in commands if command.startswith("RETR")], [])
+                server.messages.append((b"e", b"five\n"))
+                self.assertIn(f"RETR {len(server.messages)}", self.session(server, account))
 
-    def test_whenever_it_is_killed(self):
-        """And run again."""
-        carry = module()
-        for number in range(40):
-            with self.subTest(number), self.KIND(self.server.port) as account:
-                self.session(self.server, account)
-                interrupted = Interrupted(number)
-                with mock.patch.object(sys, "argv", ["carry", *self.words(account)]), mock.patch.object(sys, "stdout"), \
-                        mock.patch.object(os, "rename", interrupted.call(os.rename)), \
-                        mock.patch.object(os, "fsync", interrupted.call(os.fsync)):
-                    try:
-                        carry.main()
-                        is_over = True
-                    except Stop:
-                        is_over = False
-                for _ in range(2):
-                    self.assertEqual(self.carried(account).returncode, 0)
-                self.check_goes_on(account, len(THREE))
-                if is_over:
-                    return
-        self.fail("it wasn't interrupted everywhere")
-
-    def test_an_account_that_is_not_there(self):
-        with self.KIND(self.server.port) as account:
-            run = self.carried(account)
-            self.assertEqual((run.returncode, run.stdout), (1, ""))
-            self.assertIn("hasn't run for the old account", run.stderr)
-
-    def test_a_record_of_another_account(self):
-        with self.KIND(self.server.port) as account:
-            self.session(self.server, account)
-            other = account.folder / f"seen-{module().digest_of(self.path, 110, 'u')}"
-            other.write_bytes(b"getmail-seen 2\nx 5 1\n")
-            before = {path: path.stat().st_mtime_ns for path in account.home.rglob("*") if path.is_file() and "lock" not in path.name}
-            run = self.carried(account)
-            self.assertEqual((run.returncode, run.stdout), (1, ""))
-            self.assertIn("the record of another account", run.stderr)
-            self.assertEqual(before, {path: path.stat().st_mtime_ns for path in before})
+    def places(self, account):
+        return [account.maildir]
 
 
-class OfFiles(CarryAccount):
-    def test_a_message_without_a_row(self):
-        """A killed run may have stored it; it counts as delivered."""
-        with Account(self.server.port) as account:
-            self.session(self.server, account)
-            account.record.write_bytes(b"getmail-seen 2\na 5 1\nb/c 6 0\n")
-            self.assertEqual(self.carried(account).returncode, 0)
-            new = account.folder / f"seen-{module().digest_of(self.path, 110, 'u')}"
-            rows = [line.split() for line in new.read_bytes().splitlines()]
-            self.assertEqual(rows[:3], [[b"getmail-seen", b"2"], [b"a", b"5", b"1"], [b"b/c", b"6", b"1"]])
-            self.assertEqual((rows[3][0], rows[3][2], len(rows)), (b"d", b"1", 4))
-
-    def test_what_cannot_be_opened(self):
-        """Nobody knows what it holds: its message doesn't count as delivered, and stays on the server."""
-        with Account(self.server.port) as account:
-            (account.maildir / "new" / account.stem(b"a")).mkdir()
-            (account.maildir / "cur" / account.stem(b"d")).symlink_to("nowhere")
-            thread = self.server.begin_session()
-            self.assertEqual(account.run("-q").status, 0)
-            thread.join(programs.SECONDS)
-            self.assertEqual(self.carried(account).returncode, 0)
-            new = account.folder / f"seen-{module().digest_of(self.path, 110, 'u')}"
-            rows = [line.split() for line in new.read_bytes().splitlines()[1:]]
-            self.assertEqual([(row[0], row[2]) for row in rows], [(b"a", b"0"), (b"b/c", b"1"), (b"d", b"0")])
-
-    def test_files_that_a_reader_moved(self):
-        with Account(self.server.port) as account:
-            self.session(self.server, account)
-            account.read_all_new()
-            self.assertEqual(self.carried(account).returncode, 0)
-            self.check_goes_on(account, len(THREE))
+class FilesOnSocket(OnSocket, unittest.TestCase):
+    pass
 
 
-class OfEntries(CarryAccount):
+class EntriesOnSocket(OnSocket, unittest.TestCase):
     KIND = MboxAccount
 
     def places(self, account):
         return []
 
-    def stored(self, account):
-        return account.mbox.read_bytes().count(b"From MAILER-DAEMON")
+
+class InHome(unittest.TestCase):
+    """The account of a `Home`, of which a test may use what it likes."""
+
+    KIND = Account
+
+    @classmethod
+    def setUpClass(cls):
+        cls.home = cls.enterClassContext(Home(cls.KIND))
+        cls.script = module()
+
+    def setUp(self):
+        self.home.restore()
+
+    def carry(self, *words):
+        return run_here(self.script, *(words or self.home.words))
+
+    def check_carried(self, *odd):
+        """It was done, and told nothing but these odd names."""
+        run = self.carry()
+        told = "".join(f"{self.script.shown(path)}: no file of a message, left as it is\n" for path in odd)
+        self.assertEqual((run.status, run.err.decode()), (0, told))
+        return run
+
+    def check_stopped(self, *told, words=()):
+        """Nothing was changed, and the line has all this."""
+        before = self.home.tree()
+        run = self.carry(*words)
+        self.assertEqual((run.status, run.out, self.home.tree()), (1, b"", before))
+        for part in (*told, "nothing was changed"):
+            self.assertIn(str(part), run.err.decode())
+
+    def path(self, part, digest, uid, end=""):
+        text = dict(FIRST)[uid]
+        return self.home.maildir / part / f"{digest}.{uid.hex()},S={len(text)}{end}"
+
+
+class Others(InHome):
+    """What is another account's, and what only looks so."""
+
+    def words_to_other(self):
+        home = self.home
+        return ["-g", home.folder, LOOPBACK, home.server.port, "u", LOOPBACK, home.other_server.port, "u", home.maildir]
+
+    def test_two_accounts_of_one_maildir(self):
+        """Ids in common, both fetched, one of them deleted: carrying one to the other would take the other's mail."""
+        home = self.home
+        self.check_stopped(home.record(home.old), home.record(home.other), words=self.words_to_other())
+        self.assertEqual(home.faults(), NONE)
+
+    def test_two_accounts_with_the_same_ids(self):
+        """The other one's record has each id as delivered, and each name is taken."""
+        home = self.home
+        home.record(home.old).write_bytes(b"getmail-seen 2\n1 5 1\n2 6 1\n")
+        for path in (self.path("cur", home.old, b"b/c", ":2,S"), self.path("new", home.old, b"d")):
+            path.unlink()
+        before = home.texts()
+        self.check_stopped(home.record(home.old), home.record(home.other), words=self.words_to_other())
+        self.assertEqual(home.texts(), before)
+
+    def test_files_of_another_account_without_a_record(self):
+        home = self.home
+        home.record(home.other).unlink()
+        own = self.path("cur", home.old, b"1", ":2,S")
+        self.check_stopped(own, home.maildir / "new" / home.names(home.other)[0], words=self.words_to_other())
+        for name in home.names(home.other)[:2]:
+            (home.maildir / "new" / name).unlink()
+        # One that the old account has no file for is no less the other's.
+        self.check_stopped(home.maildir / "new" / home.names(home.other)[0], words=self.words_to_other())
+
+    def test_a_name_that_came_between(self):
+        home = self.home
+        self.check_carried()
+        for text, new in ((b"another text\n", "new"), (b"anon\n", "new"), (b"anot", "new")):
+            old, there = (self.path("new", digest, b"2") for digest in (home.old, home.new))
+            old.write_bytes(text)
+            self.check_stopped(old, there)
+        self.assertEqual(there.read_bytes(), dict(FIRST)[b"2"])
+        old.write_bytes(there.read_bytes())
+        self.check_carried()
+        self.assertEqual((old.exists(), home.faults()), (False, NONE))
+
+    def test_a_name_that_comes_meanwhile(self):
+        """It is not written over, whenever it comes, and the file whose name it is stays too."""
+        home = self.home
+        there, came = self.path("new", home.new, b"2"), []
+
+        def come(_):
+            if not there.exists():
+                there.write_bytes(b"came\n")
+                came.append(b"came\n")
+        for number in range(1, 200):
+            with self.subTest(call=number):
+                home.restore()
+                came.clear()
+                with Meanwhile(self.script, home.home, number, come) as meanwhile:
+                    run = self.carry()
+                if meanwhile.is_over():
+                    return
+                self.assertEqual(home.faults(), ([], [], came), run)
+                self.assertTrue(run.status == 0 or str(there) in run.err.decode(), run)
+        self.fail("too many calls")
+
+    def test_the_same_message_in_the_other_folder(self):
+        """Both accounts have fetched it: it stays where it was read."""
+        home = self.home
+        self.check_carried()
+        read, old = self.path("cur", home.new, b"1", ":2,S"), self.path("new", home.old, b"1")
+        old.write_bytes(read.read_bytes())
+        self.check_carried()
+        self.assertEqual((old.exists(), read.exists(), home.faults()), (False, True, NONE))
+
+    def test_two_names_of_one_file(self):
+        """A kill between a link and the removal of the old name, and then a reader, left them."""
+        home = self.home
+        for old, new in ((self.path("new", home.old, b"2"), self.path("new", home.new, b"2")),
+                         (self.path("cur", home.old, b"2", ":2,S"), self.path("new", home.new, b"2"))):
+            with self.subTest(old):
+                home.restore()
+                self.path("new", home.old, b"2").rename(old)
+                (home.folder / f"carried-{home.old}-{home.new}").touch()
+                os.link(old, new)
+                self.check_carried()
+                self.assertEqual((old.exists(), new.exists(), home.faults()), (False, True, NONE))
+
+    def test_there_and_back_by_way_of_a_third(self):
+        home = self.home
+        account = [LOOPBACK, home.server.port]
+        for old, new in (("u", "w"), ("w", "x"), ("x", "u"), ("w", "x")):
+            run = self.carry("-g", home.folder, *account, old, *account, new, home.maildir)
+            self.assertEqual((run.status, run.err), (0, b""), (old, new))
+        self.assertEqual((len(home.names(home.old)), home.faults()), (4, NONE))
+        home.fetch("getmailrc")
+        self.assertEqual(home.faults(), NONE)
+        self.check_stopped(home.record(home.other), words=self.words_to_other())
+
+    def test_an_account_that_is_not_there(self):
+        self.home.record(self.home.old).unlink()
+        self.check_stopped("hasn't run for the old account")
+
+    def test_words_that_name_no_account(self):
+        for number, place in (("0", 3), ("65536", 3), ("x", 6), ("-1", 6)):
+            words = list(self.home.words)
+            words[place] = number
+            run = run_apart("carry-account", *words)
+            self.assertEqual((run.status, run.out), (2, b""))
+        same = self.home.words[:5] + self.home.words[2:5]
+        self.check_stopped("both accounts are the same", words=same)
+        odd = [*map(os.fsencode, map(str, self.home.words))]
+        odd[4] = b"u\xff"
+        done = subprocess.run([sys.executable, EXAMPLES / "carry-account.py", *odd], capture_output=True, timeout=programs.SECONDS)
+        self.assertEqual(done.returncode, 1)
+        self.assertIn(b"hasn't run for the old account", done.stderr)
+
+    def test_no_maildir(self):
+        self.check_stopped("cur: No such file or directory", words=[*self.home.words[:-1], self.home.folder])
+
+
+class Records(InHome):
+    def write(self, digest, *lines):
+        self.home.record(digest).write_bytes(b"".join(line + b"\n" for line in (b"getmail-seen 2", *lines)))
+
+    def rows(self, digest):
+        header, *rows = self.home.record(digest).read_bytes().splitlines()
+        self.assertEqual(header, b"getmail-seen 2")
+        return rows
+
+    def test_the_rows_of_both(self):
+        """The earlier second, and delivered if one says so; what is held was delivered."""
+        home = self.home
+        self.check_carried()
+        self.write(home.old, b"1 5 1", b"2 6 0", b"b/c 7 0", b"d 8 1", b"x 9 0", b"+ 1", b"y 9 1", b"+ 2", b"z 1 1")
+        self.write(home.new, b"1 6 0", b"2 5 1", b"d 9 0", b"+ 2", b"x 9 0", b"v 3 0")
+        self.check_carried()
+        rows = [b"1 5 1", b"2 5 1", b"b/c 7 1", b"d 8 1", b"x 9 0", b"y 9 1", b"v 3 0"]
+        self.assertEqual((self.rows(home.old), self.rows(home.new)), (rows, rows))
+
+    def test_the_old_record_stays(self):
+        """A run with the old rc file fetches nothing that was carried, also what no row said."""
+        home = self.home
+        self.check_carried()
+        home.fetch("getmailrc")
+        self.assertEqual((home.names(home.old), home.faults()), ([], NONE))
+
+    def test_what_is_no_record(self):
+        home = self.home
+        bad = [b"x\n", b"getmail-seen 3\n", b"getmail-seen 2\n1 5\n", b"getmail-seen 2\n1 5 1\n1 6 1\n",
+               b"getmail-seen 2\n+ 1\n! 1 0 4\n", b"getmail-seen 2\n+ 1\n1 5 1\n1 6 1\n", b"getmail-seen 2"]
+        for content in bad:
+            with self.subTest(content):
+                home.record(home.old).write_bytes(content)
+                self.check_stopped(home.record(home.old))
+        home.record(home.old).unlink()
+        os.mkfifo(home.record(home.old))
+        self.check_stopped(home.record(home.old), "no regular file")
 
     def test_an_entry_that_is_not_settled(self):
-        with MboxAccount(self.server.port) as account:
-            self.session(self.server, account)
-            account.record.write_bytes(b"getmail-seen 2\na 5 0\n! a 0 40\n")
-            run = self.carried(account)
-            self.assertEqual((run.returncode, run.stdout), (1, ""))
-            self.assertIn("isn't settled", run.stderr)
+        home = self.home
+        before = home.record(home.old).read_bytes()
+        home.record(home.old).write_bytes(before + b"! 1 0 40\n")
+        self.check_stopped(home.record(home.old), "isn't settled")
+        home.record(home.old).write_bytes(before)
+        self.check_carried()
+        with home.record(home.new).open("ab") as record:
+            record.write(b"! 1 0 40\n")
+        self.check_stopped(home.record(home.new), "isn't settled")
 
 
-del CarryAccount
+class CutOff(InHome):
+    """What was cut off from an mboxrd file."""
+
+    KIND = MboxAccount
+
+    def setUp(self):
+        super().setUp()
+        self.old, self.new = (Path(f"{self.home.record(digest)}.rest") for digest in (self.home.old, self.home.new))
+
+    def test_it_gets_its_new_name(self):
+        self.check_carried()
+        self.assertEqual((self.old.exists(), self.new.read_bytes()), (False, KEPT))
+
+    def test_another_account_s(self):
+        self.new.write_bytes(KEPT)
+        self.check_stopped(self.old, self.new)
+
+    def test_both_accounts_have_one(self):
+        self.check_carried()
+        self.old.write_bytes(b"something else")
+        self.check_stopped(self.old, self.new)
+        self.old.write_bytes(KEPT)
+        self.check_carried()
+        self.assertEqual((self.old.exists(), self.new.read_bytes()), (False, KEPT))
+
+    def test_an_odd_one(self):
+        self.old.unlink()
+        self.old.symlink_to("nowhere")
+        self.check_carried(self.old)
+        self.assertTrue(self.old.is_symlink())
+
+
+class Odd(InHome):
+    """What has a name like a message's is named and stays."""
+
+    def test_odd_names(self):
+        home = self.home
+        paths = [os.path.join(os.fsencode(home.maildir / "new"), home.old.encode() + end) for end in ODD_ENDS]
+        for path in paths:
+            Path(os.fsdecode(path)).write_bytes(b"odd\n")
+        for run in (home.carry(), home.carry(PYTHONIOENCODING="ascii", LC_ALL="C")):
+            self.assertEqual((run.status, b"Traceback" in run.err), (0, False), run)
+            self.assertEqual(len(run.err.splitlines()), len(paths))
+        self.assertTrue(all(os.path.exists(path) for path in paths))
+        self.assertEqual((len(home.names(home.new)), home.faults()[:2]), (4, ([], [])))
+
+    def test_odd_kinds(self):
+        """A message that something else has the name of doesn't count as delivered, unless a link leads to a file."""
+        home = self.home
+        ids = {name: b"odd-%d" % number for number, name in enumerate(
+            ("a link to nothing", "a pipe", "a folder", "a link to a folder", "a link to a file"))}
+        paths = {name: home.maildir / "new" / f"{home.old}.{uid.hex()}" for name, uid in ids.items()}
+        paths["a link to nothing"].symlink_to("nowhere")
+        os.mkfifo(paths["a pipe"])
+        paths["a folder"].mkdir()
+        paths["a link to a folder"].symlink_to(home.folder)
+        paths["a link to a file"].symlink_to(home.folder / "new")
+        self.check_carried(*paths.values())
+        self.assertTrue(all(os.path.lexists(path) for path in paths.values()))
+        rows = home.record(home.new).read_bytes()
+        self.assertEqual([name for name, uid in ids.items() if b"\n%s " % uid in rows], ["a link to a file"])
+
+    def test_a_file_with_any_end(self):
+        home = self.home
+        names = [f"{home.old}.61,U=5,S=4:2,RS", f"{home.old}.62:2,", f"{home.old}.63,\udcff\n"]
+        for name in names:
+            (home.maildir / "cur" / name).write_bytes(name.encode(errors="replace"))
+        self.check_carried()
+        self.assertLessEqual({name.replace(home.old, home.new) for name in names}, set(os.listdir(home.maildir / "cur")))
+
+    @unittest.skipIf(os.geteuid() == 0, "root reads every file")
+    def test_a_file_without_rights(self):
+        path = self.path("new", self.home.old, b"d")
+        path.chmod(0)
+        self.check_carried()
+        self.assertIn(b"\nd ", self.home.record(self.home.new).read_bytes())
+
+
+class Reading(InHome):
+    """A mail reader works just before one of the calls for files of the Maildir, each of them in turn."""
+
+    def read(self, _=None, digest=""):
+        """Each new message is read, and each that was read gets other flags; with a digest, those of this account alone."""
+        maildir = self.home.maildir
+        for part in ("cur", "new"):
+            for name in os.listdir(maildir / part):
+                base, _, flags = name.partition(":2,")
+                with contextlib.suppress(FileNotFoundError):
+                    if name.startswith(digest):
+                        os.rename(maildir / part / name, maildir / "cur" / f"{base}:2,{'' if flags else 'S'}")
+                        self.moved.add(base[64:])
+
+    def read_old_names(self, _):
+        """As if the other names came only now."""
+        self.read(digest=self.home.old)
+
+    def remove(self, _=None):
+        """The owner removes a message, whatever its name is."""
+        for part in ("new", "cur"):
+            for name in os.listdir(self.home.maildir / part):
+                if name.partition(".")[2].startswith(b"2".hex()) and not name.startswith(self.home.other):
+                    (self.home.maildir / part / name).unlink()
+
+    def play(self, act, faults, step=1):
+        for number in range(1, 200, step):
+            with self.subTest(act=act.__name__, call=number):
+                self.home.restore()
+                self.moved = set()
+                with Meanwhile(self.script, self.home.maildir, number, act) as meanwhile:
+                    run = self.carry()
+                self.assertEqual((run.status, run.err), (0, b""))
+                if meanwhile.is_over():
+                    self.assertGreater(number, 20)
+                    return
+                self.assertEqual((self.home.names(self.home.old), self.home.faults()), ([], faults))
+                # What the reader has moved isn't put back.
+                left = [name[64:] for name in os.listdir(self.home.maildir / "new") if name.startswith(self.home.new)]
+                self.assertEqual(self.moved & set(left), set())
+        self.fail("too many calls")
+
+    def test_with_renames_that_spare_what_is_there(self):
+        self.play(self.read, NONE)
+
+    def test_with_links(self):
+        with mock.patch("ctypes.CDLL", lambda *_, **__: object()):
+            self.play(self.read, NONE, 1 if WHOLE else 4)
+            self.play(self.read_old_names, NONE)
+
+    def test_a_message_that_is_removed(self):
+        self.play(self.remove, ([b"two\n"], [], []), 1 if WHOLE else 2)
+
+    def test_a_reader_that_never_rests(self):
+        """It says so, and a later run goes on."""
+        over, self.moved = threading.Event(), set()
+
+        def work():
+            while not over.is_set():
+                self.read()
+        reader = threading.Thread(target=work)
+        reader.start()
+        try:
+            run = self.carry()
+        finally:
+            over.set()
+            reader.join(programs.SECONDS)
+        if run.status != 0:
+            self.assertIn(b"close what reads mail there", run.err)
+        self.assertEqual(self.home.faults(), NONE)
+        self.check_carried()
+        self.assertEqual((self.home.names(self.home.old), self.home.faults()), ([], NONE))
+
+
+class AtWork(InHome):
+    """Beside a run of either account nothing is changed."""
+
+    def test_a_run_of_either_account(self):
+        home = self.home
+        asked, over = threading.Event(), threading.Event()
+
+        def give(_, say, octets):
+            asked.set()
+            over.wait(programs.SECONDS)
+            say(octets)
+        for rc, digest in (("getmailrc", home.old), ("new", home.new)):
+            with self.subTest(rc):
+                home.restore()
+                home.server.give = give
+                self.addCleanup(setattr, home.server, "give", lambda _, say, octets: say(octets))
+                home.server.messages.append((b"e", b"five\n"))
+                process = home.account.start("-q", "-r", rc)
+                self.assertTrue(asked.wait(programs.SECONDS))
+                try:
+                    self.check_stopped(home.folder / f"lock-{digest}", "at work")
+                finally:
+                    over.set()
+                    process.communicate(timeout=programs.SECONDS)
+                home.server.wait_for_end()
+                asked.clear()
+                over.clear()
+
+    def test_while_it_works_no_run_does(self):
+        ends = []
+        with Meanwhile(self.script, self.home.maildir, 1, lambda _: ends.extend(
+                self.home.account.run("-q", "-r", rc).err for rc in ("getmailrc", "new"))):
+            self.check_carried()
+        self.assertEqual(ends, [b"getmail: another getmail is at work for this account\n"] * 2)
+
+    def test_an_unattended_run_counts_from_now(self):
+        """Such a run tells of another one only once that has been at work for an hour."""
+        lock = self.home.folder / f"lock-{self.home.old}"
+        os.utime(lock, (0, 0))
+        ends = []
+        with Meanwhile(self.script, self.home.maildir, 1, lambda _: ends.append(self.home.account.run("--unattended"))):
+            self.check_carried()
+        self.assertEqual(ends, [programs.SILENT])
+
+    def test_the_scripts_that_make_a_record(self):
+        path = self.home.folder / "list"
+        path.write_bytes(b"a\x001600000000\n")
+        with open(self.home.folder / f"lock-{self.home.new}", "w") as lock:
+            fcntl.flock(lock, fcntl.LOCK_EX)
+            run = run_apart("from-getmail6", *self.home.words[:2], LOOPBACK, self.home.server.port, "w", path)
+        self.assertEqual((run.status, run.out, self.home.record(self.home.new).exists()), (1, b"", False))
+        self.assertIn(b"at work", run.err)
+
+    def test_a_system_without_locks(self):
+        with preload.library("refuse_call") as library:
+            run = self.home.carry(LD_PRELOAD=str(library), REFUSED_CALL="lock-unsupported")
+        self.assertEqual((run.status, run.err.count(b"no lock: "), self.home.faults()), (0, 2, NONE))
+
+    def test_an_odd_lock(self):
+        lock = self.home.folder / f"lock-{self.home.new}"
+        for make in (lock.mkdir, lambda: os.mkfifo(lock), lambda: lock.symlink_to("nowhere")):
+            make()
+            self.check_stopped(lock, "no regular file")
+            lock.rmdir() if lock.is_dir() else lock.unlink()
+
+
+class Refused(InHome):
+    """Each call for the account's files refused in turn: it says so, and run again it goes on."""
+
+    def refuse(self, first):
+        raise OSError(errno.EIO, os.strerror(errno.EIO), None if isinstance(first, int) else first)
+
+    def play(self, below, is_after):
+        for number in range(1, 200):
+            with self.subTest(call=number, is_after=is_after):
+                self.home.restore()
+                with Meanwhile(self.script, below, number, self.refuse, is_after) as meanwhile:
+                    run = self.carry()
+                if meanwhile.is_over():
+                    self.assertEqual((run.status, run.err), (0, b""))
+                    self.assertGreater(number, 15)
+                    return
+                self.assertEqual(self.home.faults(), NONE)
+                if run.status != 0:
+                    self.assertRegex(run.err, b"^/.*: Input/output error; (nothing was changed|run this again once that is over)")
+                self.check_carried()
+                self.assertEqual((self.home.names(self.home.old), self.home.faults()), ([], NONE))
+        self.fail("too many calls")
+
+    def test_each_call(self):
+        for is_after in (False, True):
+            self.play(self.home.folder, is_after)
+            self.play(self.home.maildir, is_after)
+
+    def test_another_account_s_record(self):
+        """Whatever is refused while it looks, it doesn't take another account for the same one, also without a Maildir."""
+        home = self.home
+        words = [*home.words[:5], LOOPBACK, home.other_server.port, "u", home.maildir]
+        self.check_never_taken(words)
+        self.check_never_taken(words[:-1])
+
+    def check_never_taken(self, words):
+        before = self.home.tree()
+        for number in range(1, 200):
+            with self.subTest(call=number, words=len(words)):
+                with Meanwhile(self.script, self.home.home, number, self.refuse) as meanwhile:
+                    run = self.carry(*words)
+                self.assertEqual((run.status, self.home.tree()), (1, before), run)
+                self.assertIn(b"nothing was changed", run.err)
+            if meanwhile.is_over():
+                return
+        self.fail("too many calls")
+
+    def test_a_full_disk(self):
+        """No file may grow: both records stay as they were."""
+        before = self.home.record(self.home.old).read_bytes()
+        done = subprocess.run(["sh", "-c", 'ulimit -f 0; exec "$@"', "sh", sys.executable, EXAMPLES / "carry-account.py",
+                               *map(str, self.home.words)], capture_output=True, timeout=programs.SECONDS)
+        self.assertEqual((done.returncode, done.stdout), (1, b""))
+        self.assertRegex(done.stderr, b"^/.*/seen-.*: File too large; run this again")
+        self.assertEqual(self.home.record(self.home.old).read_bytes(), before)
+        self.assertFalse(self.home.record(self.home.new).exists())
+        self.check_carried()
+        self.assertEqual(self.home.faults(), NONE)
+
 
 if __name__ == "__main__":
     unittest.main()

@@ -102,7 +102,8 @@ class Sessions(Fetching):
         self.assertNotIn(secret.encode(), b"".join(told))
 
     def test_an_account_of_getmail6_goes_on(self):
-        """What its file of old mail names is not fetched again, by the script in `examples`."""
+        """What its file of old mail names is not fetched again, by the script in `examples`, which changes nothing if it is
+        run again."""
         oldmail = self.account.folder / f"oldmail-{LOOPBACK}-{self.server.port}-u"
         oldmail.write_bytes(b"a\x001600000000\nc\x001600000001\ngone\x001600000002\n")
         words = [sys.executable, programs.ROOT / "examples" / "from-getmail6.py", "-g", self.account.folder, LOOPBACK,
@@ -111,8 +112,9 @@ class Sessions(Fetching):
         self.check_good(self.session())
         self.assertEqual(self.server.commands, LOGIN + ["RETR 2", "QUIT"])
         self.check_held(THREE[1:2])
+        before = self.account.record.read_bytes()
         again = subprocess.run(words, capture_output=True, timeout=programs.SECONDS)
-        self.assertEqual(again.returncode, 1)
+        self.assertEqual((again.returncode, self.account.record.read_bytes()), (0, before))
 
     def test_nothing_is_fetched_twice(self):
         self.session()

@@ -79,6 +79,31 @@ class FromGetmail6(unittest.TestCase):
         self.assertEqual((run.returncode, run.stdout, self.record.read_bytes()), (1, "", b"as it was"))
         self.assertIn("move the record away", run.stderr)
 
+    def test_a_list_that_was_converted_already(self):
+        """It is done, also if `getmail` has gone on from there; with a message that isn't delivered it is refused."""
+        self.assertEqual(self.run_script(b"a\x001600000000\nb\x001600000001\n").returncode, 0)
+        for more in (b"", b"+ 1\nc 1600000002 1\n", b"! c 0 40\n"):
+            content = self.record.read_bytes() + more
+            self.record.write_bytes(content)
+            run = self.run_script(b"a\x001600000000\nb\x001600000001\n")
+            self.assertEqual((run.returncode, run.stdout, run.stderr), (0, f"{self.record}: 2 messages\n", ""))
+            self.assertEqual(self.record.read_bytes(), content)
+        for rows in (b"", b"a 1600000000 1\n", b"a 1600000000 1\nb 1600000001 0\n"):
+            self.record.write_bytes(HEADER + rows)
+            run = self.run_script(b"a\x001600000000\nb\x001600000001\n")
+            self.assertEqual((run.returncode, run.stdout, self.record.read_bytes()), (1, "", HEADER + rows))
+            self.assertIn("move the record away", run.stderr)
+
+    def test_what_has_the_record_s_name(self):
+        for make in (self.record.mkdir, lambda: self.record.symlink_to("nowhere"), lambda: os.mkfifo(self.record)):
+            make()
+            run = self.run_script(b"a\x001600000000\n")
+            self.assertEqual((run.returncode, run.stdout), (1, ""))
+            self.assertIn(str(self.record), run.stderr)
+            self.assertNotIn("Traceback", run.stderr)
+            self.assertFalse((self.folder / "nowhere").exists())
+            self.record.rmdir() if self.record.is_dir() else self.record.unlink()
+
     def test_a_file_that_cannot_be_read_or_written_is_named(self):
         words = [sys.executable, SCRIPT, "-g", self.folder / "none", "mail.example.org", "110", "fred", self.oldmail]
         for missing in (self.oldmail, self.folder / "none"):

@@ -1,10 +1,11 @@
 """A first run where getmail6 has fetched: it would fetch all mail again, and says what to do instead."""
 
+import os
 import unittest
 
 from getmail.account import Account
 from getmail.server import Server
-from harness import programs
+from harness import preload, programs
 
 TWO = [(b"a", b"one\n"), (b"b", b"two\n")]
 
@@ -55,13 +56,54 @@ class InPlaceOfGetmail6(unittest.TestCase):
         self.list_as("oldmail-mail.example.org-995-u", b"")
         self.check_fetches()
 
-    def test_a_name_with_marks(self):
-        """getmail6 writes `-` for `/` and `:`."""
-        self.account.rcfile.write_bytes(self.account.rcfile.read_bytes().replace(b"username = u", b"username = a/b:c"))
-        path = self.list_as("oldmail-127.0.0.1-110-a-b-c")
-        run = self.account.run()
-        self.assertEqual(run.status, 2)
-        self.assertTrue(run.err.startswith(f"getmail: {path} lists what getmail6 fetched".encode()), run.err)
+    def test_names_with_marks(self):
+        """getmail6 writes one `-` for each run of certain octets."""
+        self.server.socket.close()
+        plain = self.account.rcfile.read_bytes()
+        for user, name in (("a/b:c", "a-b-c"), ("a|b", "a-b"), ("a//b", "a-b"), ("a;b", "a-b"), ("a\\b", "a-b"), ("<a>", "-a-"),
+                           ("a<|>/;:\\b", "a-b"), ("a-/b", "a--b"), ("a/-/b", "a---b"), ("fred|", "fred-"), ("||", "-"),
+                           ("a b", "a b"), ("a@b.c", "a@b.c"), ("ö|ö", "ö-ö")):
+            with self.subTest(user):
+                self.account.rcfile.write_bytes(plain.replace(b"username = u", b"username = " + user.encode()))
+                path = self.list_as(f"oldmail-127.0.0.1-110-{name}")
+                run = self.account.run()
+                self.assertEqual(run.status, 2)
+                self.assertTrue(run.err.startswith(f"getmail: {path} lists what getmail6 fetched".encode()), run.err)
+                path.unlink()
+
+    def list_last(self):
+        """A list of the user that comes after each other name of the folder."""
+        for number in range(200):
+            path = self.list_as(f"oldmail-host{number}.example-995-u")
+            if os.listdir(self.account.folder)[-1] == path.name:
+                return path
+            path.unlink()
+        self.fail("no name comes last")
+
+    def test_a_list_that_comes_last(self):
+        self.server.socket.close()
+        for name in ("notes", "oldmail-mail.example.org-995-fred"):
+            with self.subTest(name):
+                other = self.list_as(name)
+                path = self.list_last()
+                self.check_stopped(path)
+                path.unlink()
+                other.unlink()
+
+    def test_an_empty_list_that_comes_first(self):
+        self.server.socket.close()
+        self.list_as("oldmail-mail.example.org-995-u", b"")
+        self.check_stopped(self.list_last())
+
+    def test_a_record_that_cannot_be_looked_at(self):
+        """It may be there, so the list is none of a program whose place is taken."""
+        self.list_as("oldmail-mail.example.org-995-u")
+        thread = self.server.begin_session()
+        with preload.library("refuse_call") as library:
+            run = self.account.run("-q", LD_PRELOAD=str(library), REFUSED_CALL="record")
+        thread.join(programs.SECONDS)
+        self.assertEqual(run, programs.Run(1, b"", b"getmail: seen file refused\n"))
+        self.assertEqual(self.account.held(), [])
 
     def test_later_runs(self):
         self.check_fetches()

@@ -28,7 +28,7 @@ UNITS = [f"lib/systemd/user/{name}" for name in (
     "getmail-tunnel.socket", "popd.service", "popd.socket", "popd@.service")]
 DOCUMENTS = [f"share/doc/getmail/{name}" for name in (
     "README.md", "CHANGELOG.md", "LICENSE", "NOTICES", "FROM-GETMAIL6.md", "getmailrc.sample", "stunnel.conf", "crontab",
-    "make_record.py")]
+    "account_files.py", "make_record.py")]
 SCRIPTS = [f"share/doc/getmail/{path.name}" for path in (programs.ROOT / "examples").glob("*-*.py")]
 MESSAGE = b"Subject: one\n\nIt is.\n"
 # What the rules of `make install` and `make dist` read.
@@ -188,6 +188,13 @@ class Install(Copied):
             self.assertEqual((done.returncode, done.stderr), (2, f"install.sh: PREFIX is a full path, and not {prefix}\n"))
             self.assertFalse((self.top / prefix).exists())
 
+    def test_without_the_programs_a_line_says_so(self):
+        (self.top / "bin/popd").unlink()
+        done = subprocess.run(["./install.sh"], cwd=self.top, env=programs.environment(PREFIX=str(self.place)), capture_output=True,
+                              text=True, timeout=programs.SECONDS)
+        told = "install.sh: bin/popd is not there: `make` builds it, and archives have it\n"
+        self.assertEqual((done.returncode, done.stderr, self.place.exists()), (2, told, False))
+
     def test_what_others_have_there_stays(self):
         (self.place / "usr/local/bin").mkdir(parents=True)
         (self.place / "usr/local/bin/other").touch()
@@ -217,9 +224,9 @@ class Install(Copied):
         """All of it is understood: the run ends when it looks for the tunnel, which isn't here."""
         self.make("install", f"PREFIX={self.place}")
         sample = self.place / "share/doc/getmail/getmailrc.sample"
-        sample.write_text(sample.read_text().replace("/run/user/1000", str(self.place)))
+        sample.write_text(sample.read_text().replace("/home/fred", str(self.place)))
         run = programs.run("getmail", "-r", str(sample), HOME=str(self.place))
-        self.assertEqual((run.status, run.err), (1, f"getmail: cannot connect to {self.place}/getmail/pop3s\n".encode()))
+        self.assertEqual((run.status, run.err), (1, f"getmail: cannot connect to {self.place}/.getmail/tunnel/pop3s\n".encode()))
 
     def test_folders_are_open_to_all_whatever_the_umask(self):
         self.make("install", f"DESTDIR={self.place}")
@@ -256,20 +263,34 @@ class Install(Copied):
                 missing = "`rt`, which the Rattle kit has, is not on PATH: see README.md."
                 self.assertRegex(line, rf"^Makefile:\d+: \*\*\* {missing}  Stop\.$")
 
+    def test_without_python_a_line_says_what_is_missing(self):
+        path = self.path_with("#!/bin/sh\n")
+        os.unlink(f"{path}/python3")
+        for words in ("all", "demo", "check"):
+            with self.subTest(words):
+                line, = self.refusal(words, PATH=path)
+                self.assertRegex(line, r"^Makefile:\d+: \*\*\* `python3` is not on PATH: see README\.md\.  Stop\.$")
+
 
 class EmptyRoot:
-    """A folder with only the archive, as its install.sh leaves it, and the C library."""
+    """A folder with only the archive, as its install.sh leaves it, the C library, and `/proc`."""
 
     def __init__(self, folder):
         self.folder = folder
-        program, *words = ["chroot"] if os.geteuid() == 0 else ["unshare", "--map-root-user", "--root"]
-        self.change = [shutil.which(program), *words]
+        (folder / "proc").mkdir(parents=True)
+
+    def command(self, *words, folder=None):
+        """Runs a program in this root, where the system shows itself as it does anywhere."""
+        as_root = [] if os.geteuid() == 0 else ["--map-root-user"]
+        enter = 'mount --rbind /proc "$0/proc" && exec chroot "$0" "$@"'
+        return ["unshare", *as_root, "--mount", "sh", "-c", enter, folder or self.folder, *words]
 
     def is_allowed(self):
         """Whether a program may be run in such a root here."""
-        if self.change[0] is None:
+        if shutil.which("unshare") is None:
             return False
-        return subprocess.run([*self.change, "/", "true"], capture_output=True, timeout=programs.SECONDS).returncode == 0
+        words = self.command("true", folder="/")
+        return subprocess.run(words, capture_output=True, timeout=programs.SECONDS).returncode == 0
 
     def add_libraries(self, program):
         """Copies the libraries that the program asks for, and answers their names."""
@@ -281,15 +302,12 @@ class EmptyRoot:
             shutil.copy(path, target)
         return {Path(path).name for path in paths}
 
-    def command(self, *words):
-        return [*self.change, self.folder, *words]
-
 
 class Dist(Copied):
     def unpacked(self):
         """The folder of the archive that `make dist` writes."""
         self.make("dist")
-        archive, = (self.top / "dist").glob("getmail-*-linux-*.tar.gz")
+        archive, = (self.top / "dist").glob("quailtuffet-*-linux-*.tar.gz")
         with tarfile.open(archive) as opened:
             opened.extractall(self.place)
         folder, = self.place.iterdir()
@@ -499,19 +517,19 @@ class Pages(unittest.TestCase):
         self.check("groff", "-mdoc", "-ww", "-Tutf8")
 
 
-def account_lines():
-    """The lines of the README that set up an account, and the one for cron."""
-    section = (programs.ROOT / "README.md").read_text().split("## A real account\n")[1].split("\n## ")[0]
-    *lines, cron = [line[4:] for line in section.splitlines() if line.startswith("    ")]
-    return lines, cron
+def account_lines(readme=programs.ROOT / "README.md"):
+    """The lines of the README that set up an account, the one in place of systemd's, and the one for cron."""
+    section = readme.read_text().split("## A real account\n")[1].split("\n## ")[0]
+    lines, tunnel, cron = [re.findall("^    (.*)", block, re.MULTILINE)
+                           for block in re.findall(r"(?:^    .*\n)+", section, re.MULTILINE)]
+    return lines, *tunnel, *cron
 
 
-class Readme(unittest.TestCase):
+class Readme(Copied):
     """The lines of the README that set up a real account, with stand-ins for the editor and the tunnel."""
 
-    def test_the_lines_that_set_up_an_account(self):
-        lines, cron = account_lines()
-        self.assertEqual(len(lines), 6)
+    def run_lines(self, lines, folder):
+        """Runs the lines in the folder, from an empty home."""
         messages = [(b"a", b"one\n"), (b"b", b"two\n")]
         with Server(messages) as server, tempfile.TemporaryDirectory() as home:
             thread = server.begin_session()
@@ -520,15 +538,44 @@ class Readme(unittest.TestCase):
             path = f"{home}:{Path(programs.path_of('getmail')).parent}:{os.environ['PATH']}"
             edits = f"sed -i -e s/^server.*/server=127.0.0.1/ -e s/^#.port.*/port={server.port}/"
             changes = {"HOME": home, "EDITOR": edits, "PATH": path}
-            done = subprocess.run(["bash", "-euc", "\n".join(lines)], cwd=programs.ROOT, capture_output=True, text=True,
+            done = subprocess.run(["bash", "-euc", "\n".join(lines)], cwd=folder, capture_output=True, text=True,
                                   env=programs.environment(**changes), timeout=programs.SECONDS)
             thread.join(programs.SECONDS)
             self.assertEqual((done.returncode, done.stderr), (0, ""))
             self.assertEqual(len(os.listdir(Path(home) / "Maildir/new")), len(messages))
             self.assertEqual(stat.S_IMODE((Path(home) / ".getmail/getmailrc").stat().st_mode), 0o600)
             self.assertIn("\nconnect = pop.example.net:995\n", (Path(home) / ".getmail/stunnel.conf").read_text())
+            self.assertIn(f"\naccept = {home}/.getmail/tunnel/pop3s\n", (Path(home) / ".getmail/stunnel.conf").read_text())
+            self.assertEqual(stat.S_IMODE((Path(home) / ".getmail/tunnel").stat().st_mode), 0o700)
             self.assertEqual((Path(home) / "started").read_text(), "--user enable --now getmail-tunnel.socket\n")
+
+    def test_in_a_checkout(self):
+        lines, _, cron = account_lines()
+        self.assertEqual(len(lines), 7)
+        self.run_lines(lines, programs.ROOT)
         self.assertIn("*/10 * * * * $(command -v getmail) --unattended", cron)
+
+    def test_in_an_archive(self):
+        self.make("dist")
+        archive, = (self.top / "dist").glob("*.tar.gz")
+        with tarfile.open(archive) as opened:
+            opened.extractall(self.place)
+        folder, = self.place.iterdir()
+        self.run_lines(account_lines(folder / "README.md")[0], folder)
+
+    def test_where_it_was_installed(self):
+        self.make("install", f"PREFIX={self.place}")
+        self.run_lines(account_lines(self.place / "share/doc/getmail/README.md")[0], self.place)
+
+    def test_of_the_package(self):
+        if not shutil.which("dpkg-deb"):
+            self.skipTest("dpkg-deb is not installed")
+        self.make("dist")
+        package, = (self.top / "dist").glob("*.deb")
+        subprocess.run(["dpkg-deb", "-x", package, self.place], check=True, timeout=programs.SECONDS)
+        lines = account_lines(self.place / "usr/share/doc/getmail/README.md")[0]
+        self.assertTrue(any("/usr/share/doc/getmail/getmailrc.sample" in line for line in lines))
+        self.run_lines([line.replace("/usr/share/", f"{self.place}/usr/share/") for line in lines], self.place)
 
 
 class Regular(unittest.TestCase):

@@ -189,6 +189,23 @@ class Intents(unittest.TestCase):
             self.assertEqual(run("-d"), programs.SILENT)
             self.assertEqual(account.content(), entries(TEXTS))
 
+    def test_a_rest_of_a_message_that_is_left_out(self):
+        """The run that cuts it off names it, though it has nothing else to do."""
+        rest = entry(TEXTS[1])[:100]
+        with Server(THREE) as server, MboxAccount(server.port, options="max_message_size = 1\n") as account:
+            self.assertEqual(self.settle(server, account, rest), told(account))
+            self.assertEqual((account.content(), account.kept.read_bytes()), (entry(TEXTS[0]), rest))
+
+    def test_a_rest_that_cannot_be_compared(self):
+        """What is kept may be on a disk that isn't there. It isn't taken for a part of what the run appends."""
+        with Server(THREE) as server, MboxAccount(server.port) as account:
+            account.kept.symlink_to("nowhere")
+            thread = server.begin_session()
+            self.assertEqual(account.run("-q"), told(account))
+            thread.join(programs.SECONDS)
+            self.assertEqual(account.content(), entries(TEXTS))
+            self.assertTrue(account.kept.is_symlink())
+
     def test_an_unattended_run_tells_of_it_once(self):
         with SharedServer(THREE) as server, MboxAccount(server.port) as account:
             account.kept.write_bytes(OTHER)

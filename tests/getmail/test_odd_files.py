@@ -169,6 +169,22 @@ class OddFiles(unittest.TestCase):
             self.assertEqual((report.status, report.err), (0, err + self.told(path, IRREGULAR)))
             self.assertIn(b"msg 1/3 (" + size + b") skipped" + reason + b"\n", report.out)
 
+    def test_a_name_that_is_taken_once_the_names_were_listed(self):
+        """Nothing is put over it: the run is refused, and names the path unless a file has it, and the next one knows it."""
+        path = self.path_for(LETTERS[0], "new")
+        for kind, make, words in KINDS:
+            with self.subTest(kind=kind):
+                self.empty()
+                self.give_away()
+                self.server.give = lambda session, say, octets, make=make: (make(path), say(octets))
+                told = b"" if kind == "a file without rights" else self.told(path, IRREGULAR)
+                self.assertEqual(self.run_getmail("-q", "-d"), programs.Run(1, b"", b"getmail: destination refused\n" + told))
+                self.assertEqual((self.paths(), self.server.messages), ({path}, LETTERS))
+                self.assertEqual(list((self.account.maildir / "tmp").iterdir()), [])
+                self.server.give = lambda session, say, octets: say(octets)
+                self.give_away()
+                self.check_told(path, words)
+
     def test_repaired(self):
         """Once it leads to a file that can be read, its message is held, as if the file had always been there."""
         def give_rights(path):

@@ -63,7 +63,7 @@ class OddFiles(OneAccount):
         elsewhere = self.account.home / "elsewhere"
         os.mkfifo(elsewhere)
         for make in (lambda: os.mkfifo(path), lambda: path.symlink_to(elsewhere), lambda: path.symlink_to("/dev/null"),
-                     lambda: path.symlink_to("/dev/zero")):
+                     lambda: path.symlink_to("/dev/zero"), lambda: path.symlink_to("nowhere")):
             make()
             run, commands = self.session("-d")
             self.assertEqual((run, commands), (refused, ["RSET", "QUIT"]))

@@ -145,7 +145,7 @@ class Refusals(unittest.TestCase):
 
 
 class EachCall(unittest.TestCase):
-    """Each flush and each rename of a session refused in turn, every write cut in two."""
+    """Each flush and each new name of a session refused in turn, every write cut in two."""
 
     def test_each_refused_call(self):
         with preload.library("watch_files") as watched:
@@ -167,7 +167,7 @@ class EachCall(unittest.TestCase):
                 if not refused:
                     self.assertGreater(number, 10)
                     return
-        self.fail("a session has more than 200 flushes and renames")
+        self.fail("a session has more than 200 flushes and new names")
 
     @staticmethod
     def session(server, account, **changes):

@@ -55,7 +55,7 @@ class ReplacedFolder(unittest.TestCase):
             flushed = None
             deleted = 0
             for words, octets in rows:
-                if words[0] == "rename" and "/new/" in words[2]:
+                if words[0] == "link" and "/new/" in words[2]:
                     flushed = None
                 elif words[0] == "flush-folder":
                     flushed = words[1]

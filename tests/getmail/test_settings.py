@@ -220,7 +220,7 @@ class RcFile(Sessions):
     def test_the_sample(self):
         """With the user's own server and password it fetches once what is new, and deletes nothing."""
         text = (programs.ROOT / "docs/getmailrc.sample").read_text()
-        for old, new in (("server = /run/user/1000/getmail/pop3s\n# port = 110", f"server = {LOOPBACK}\nport = {self.server.port}"),
+        for old, new in (("server = /home/fred/.getmail/tunnel/pop3s\n# port = 110", f"server = {LOOPBACK}\nport = {self.server.port}"),
                          ("username = fred\npassword = secret", "username = u\npassword = p")):
             self.assertIn(old, text)
             text = text.replace(old, new)

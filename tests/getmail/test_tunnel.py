@@ -91,7 +91,7 @@ class Tunnel(unittest.TestCase):
         """Runs stunnel by the example, with its ports and its authority changed, and answers the port of its near end."""
         text = (programs.ROOT / "examples/stunnel.conf").read_text()
         port = kernel.free_port()
-        for old, new in (("accept = /run/user/1000/getmail/pop3s", f"accept = 127.0.0.1:{port}"),
+        for old, new in (("accept = /home/fred/.getmail/tunnel/pop3s", f"accept = 127.0.0.1:{port}"),
                          (f"connect = {NAME}:995", f"connect = 127.0.0.1:{served}"),
                          ("CAfile = /etc/ssl/certs/ca-certificates.crt", f"CAfile = {self.certificates.authority}")):
             self.assertEqual(len(re.findall(f"^{re.escape(old)}$", text, re.MULTILINE)), 1, old)
@@ -115,30 +115,38 @@ class Tunnel(unittest.TestCase):
         self.assertTrue(again.out.endswith(b"0 messages (0 bytes) retrieved, 2 skipped, 0 deleted\n"), again.out)
 
     def test_the_first_account_of_the_readme(self):
-        """Its six lines from an empty home, with stand-ins for the editor and for systemctl, which listens and starts
-        stunnel as the two units do."""
-        served, near = self.start_dovecot(*self.certificates.signed("pop.example.net")), self.folder / "pop3s"
-        folder, home = self.folder / "path", self.folder / "home"
+        """Its lines from an empty home, with stand-ins for the editor and for systemctl, which listens and starts
+        stunnel as the two units do; and with the line for machines without systemd."""
+        lines, tunnel, _ = account_lines()
+        self.assertIn("systemctl", lines[-2])
+        served = self.start_dovecot(*self.certificates.signed("pop.example.net"))
+        for how in (lines, [*lines[:-2], tunnel, lines[-1]]):
+            with self.subTest(how[-2]):
+                self.fetch_by(how, served)
+
+    def fetch_by(self, lines, served):
+        home = Path(tempfile.mkdtemp(dir=self.folder))
+        near, folder = home / ".getmail/tunnel/pop3s", home / "path"
         folder.mkdir()
-        home.mkdir()
         for end, line in (("service", "ExecStart=/usr/bin/stunnel %h/.getmail/stunnel.conf"),
-                          ("socket", "ListenStream=%t/getmail/pop3s")):
+                          ("socket", "ListenStream=%h/.getmail/tunnel/pop3s")):
             self.assertIn(f"\n{line}\n", (programs.ROOT / f"examples/getmail-tunnel.{end}").read_text())
         listening = f"systemd-socket-activate -l {near}" if shutil.which("systemd-socket-activate") else ""
-        moved = f"s|/run/user/{os.getuid()}/getmail|{self.folder}|"
-        changes = (f"{moved}; s/pop.example.net:995/127.0.0.1:{served}/; "
-                   f"s|^CAfile.*|CAfile = {self.certificates.authority}|")
-        (folder / "systemctl").write_text(f"""#!/bin/bash
-            sed -i '{changes}' ~/.getmail/stunnel.conf
-            {listening} {STUNNEL} ~/.getmail/stunnel.conf > ~/log 2>&1 &
-            echo $! > ~/pid
-            until [ -S {near} ]; do sleep 0.05; done
-            """)
-        (folder / "systemctl").chmod(0o755)
+        changes = (f"s/pop.example.net:995/127.0.0.1:{served}/; s|^CAfile.*|CAfile = {self.certificates.authority}|")
+        for name, text in (("stunnel", f"""
+                sed -i '{changes}' "$1"
+                echo $$ > ~/pid
+                exec {STUNNEL} "$1" > ~/log
+                """), ("systemctl", f"""
+                {listening} {folder}/stunnel ~/.getmail/stunnel.conf > ~/log 2>&1 &
+                until [ -S {near} ]; do sleep 0.05; done
+                """)):
+            (folder / name).write_text(f"#!/bin/bash{text}")
+            (folder / name).chmod(0o755)
         self.addCleanup(lambda: os.kill(int((home / "pid").read_text()), signal.SIGTERM))
-        edits = f"sed -i -e s/fred/u/ -e s/secret/p/ -e {moved}"
+        edits = "sed -i -e s/fred/u/ -e s/secret/p/"
         path = f"{folder}:{Path(programs.path_of('getmail')).parent}:{os.environ['PATH']}"
-        done = subprocess.run(["bash", "-euc", "\n".join(account_lines()[0])], cwd=programs.ROOT, capture_output=True, text=True,
+        done = subprocess.run(["bash", "-euc", "\n".join(lines)], cwd=programs.ROOT, capture_output=True, text=True,
                               env=programs.environment(HOME=str(home), EDITOR=edits, PATH=path), timeout=programs.SECONDS)
         self.assertEqual((done.returncode, done.stderr), (0, ""))
         self.assertEqual({path.read_bytes() for path in (home / "Maildir/new").iterdir()}, {text for _, text in MESSAGES})

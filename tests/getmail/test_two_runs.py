@@ -213,7 +213,7 @@ class Flushed(TwoRuns):
 
     def test_a_name_that_was_not_flushed(self):
         new = str(self.account.maildir / "new")
-        self.check_flushed(lambda words, octets: words[0] == "rename" and "/new/" in words[2],
+        self.check_flushed(lambda words, octets: words[0] == "link" and "/new/" in words[2],
                            lambda rows, words: words == ["flush-folder", new])
 
     def test_a_row_of_the_record_that_was_not_flushed(self):

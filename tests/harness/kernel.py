@@ -1,5 +1,6 @@
 """What the kernel says about a running server, so that no connection is spent on finding it out."""
 
+import contextlib
 import socket
 import time
 from pathlib import Path
@@ -10,11 +11,13 @@ _LOOPBACK_IN_TABLE = "0100007F"
 _LISTENING = "0A"
 
 
-def free_port():
-    """A port of loopback that nobody has now."""
-    with socket.socket() as probe:
-        probe.bind((LOOPBACK, 0))
-        return probe.getsockname()[1]
+def free_port(ports=(0,)):
+    """A port of loopback that nobody has now, one of these if any are given."""
+    for port in ports:
+        with socket.socket() as probe, contextlib.suppress(OSError):
+            probe.bind((LOOPBACK, port))
+            return probe.getsockname()[1]
+    raise AssertionError("each port is taken")
 
 
 def listens(port):

@@ -6,8 +6,8 @@ from pathlib import Path
 
 from harness import preload
 
-# What a trace calls a step that has another name there; a rename is told by the old name and then the new one.
-NAMES = {"openat": "open", "recv": "read", "send": "write", "rename": "rename /.*/tmp/[^/ ]+ to"}
+# What a trace calls a step that has another name there; one that gives a name is told by the old name and then the new one.
+NAMES = {"openat": "open", "recv": "read", "send": "write", "link": "link /.*/tmp/[^/ ]+ to"}
 
 
 def check_each_is_traced(test, run, first=1, link=""):
@@ -23,6 +23,7 @@ def check_each_is_traced(test, run, first=1, link=""):
                     test.assertGreater(number, 10)
                     return
                 step, path = refused.groups()
-                path = re.escape(path.replace("the link", link).rstrip("/"))
-                test.assertRegex(told.decode(), f"trace: {NAMES.get(step, step)} {path}: Input/output error\n")
+                # A folder that is listed once it is open is named by its descriptor.
+                path = re.escape(path.replace("the link", link).rstrip("/")) + "|/proc/self/fd/[0-9]+"
+                test.assertRegex(told.decode(), f"trace: {NAMES.get(step, step)} (?:{path}): Input/output error\n")
     test.fail("more than 200 steps")

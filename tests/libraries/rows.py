@@ -95,7 +95,9 @@ ROWS = {
     "traces::read_row": Row("System::open, Noted::read", (".: Is a directory",)),
     "traces::traced_wire_row": Row("TracedWire::send", ("sent", "NOOP|"), left=(("",),), faults=(REFUSED,)),
     "stores::deliver_row": Row("deliver", ("done", *DELIVERED), left=(("none begun",),), faults=(NO_MEMORY, REFUSED)),
+    "stores::move_to_cur_row": changing("MemoryMaildir::move_to_cur", DELIVERED, ("moved",), ("none begun",)),
     "servers::memory_text_row": Row("MemoryDrop::text", ("one/",)),
     "servers::folder_text_row": Row("MaildirDrop::text", ("one/",)),
     "sessions::fetch_local_row": Sessions("fetch_local", 1),
+    "sessions::run_sessions_row": Sessions("run_sessions", 2),
 }

@@ -118,9 +118,10 @@ class Service:
     No connection is spent on finding out whether the server listens: the kernel's table of sockets shows it.
     """
 
-    def __init__(self, maildir, *words, user="u", closed=(), **environment):
-        """With `closed` it is started with these of its standard files closed."""
+    def __init__(self, maildir, *words, user="u", closed=(), by=(), **environment):
+        """With `closed` it is started with these of its standard files closed; with `by`, by these words."""
         self.maildir = maildir
+        self.by = by
         self.words = words
         self.user = user
         self.closed = closed
@@ -129,7 +130,7 @@ class Service:
     def __enter__(self):
         for _ in range(PORT_TRIES):
             self.port = kernel.free_port()
-            command = [programs.path_of("popd"), "--listen", f"{LOOPBACK}:{self.port}", *self.words, self.user,
+            command = [*self.by, programs.path_of("popd"), "--listen", f"{LOOPBACK}:{self.port}", *self.words, self.user,
                        self.maildir.passfile, self.maildir.folder]
             self.process = subprocess.Popen(
                 programs.with_closed(self.closed, command), env=programs.environment(**self.environment),

@@ -1,14 +1,17 @@
 """Connections over loopback: one after the other, ended in any way, and hostile clients."""
 
 import contextlib
+import os
+import shutil
 import signal
 import socket
 import subprocess
+import tempfile
 import threading
 import time
 import unittest
 
-from harness import programs, waits
+from harness import kernel, programs, waits
 from harness.kernel import LOOPBACK
 from popd import expected, lines
 from popd.service import Maildir, Service
@@ -126,9 +129,11 @@ class Connections(OverLoopback):
 
     def test_all_lines_at_once(self):
         """A client that does not wait for the answers gets all of them, in order."""
+        hurry = waits.hurry_for(type(self), speed=10)
         for name, conversation in lines.CONVERSATIONS.items():
             given = lines.given(conversation) + b"QUIT\r\n"
-            with self.subTest(name), Service(self.maildir, "--connections", "1") as service, service.client() as client:
+            with self.subTest(name), Service(self.maildir, "--connections", "1", **hurry.environment()) as service, \
+                    service.client() as client:
                 self.maildir.add("new", "a", b"one\n")
                 answers = expected.answers(given, self.machine())
                 client.give(given)
@@ -166,7 +171,7 @@ class Waits(OverLoopback):
         for word, asked in self.hurry.asked():
             if word == "nodelay":
                 connections.append([])
-            else:
+            elif word != "sleep":
                 connections[-1].append((word, asked))
         idle = [("read", 600_000), ("write", 10_000)]
         self.assertEqual(connections[-1][-2:], idle)
@@ -278,6 +283,119 @@ class Waits(OverLoopback):
                 self.assertEqual(service.finish_after_faults(), (0, b"popd: %s failed\n" % word.encode() * 2))
 
 
+class Ports(OverLoopback):
+    def test_a_port_below_1024_needs_a_capability_and_no_superuser(self):
+        if os.geteuid() != 0 or not shutil.which("setpriv"):
+            self.skipTest("only the superuser can give it, by setpriv")
+        nobody = 65534
+        for path in (self.maildir.holder.name, self.maildir.passfile, self.maildir.folder):
+            os.chown(path, nobody, nobody)
+        port = kernel.free_port(range(600, 1024))
+        command = [programs.path_of("popd"), "--listen", f"{LOOPBACK}:{port}", "--connections", "0", "u",
+                   self.maildir.passfile, self.maildir.folder]
+        by = ["setpriv", f"--reuid={nobody}", f"--regid={nobody}", "--clear-groups"]
+        capable = ["--inh-caps=+net_bind_service", "--ambient-caps=+net_bind_service"]
+        for more, status in ([], 1), (capable, 0):
+            done = subprocess.run([*by, *more, *command], capture_output=True, env=programs.environment(),
+                                  timeout=programs.SECONDS)
+            self.assertEqual((done.returncode, done.stdout), (status, b""), done.stderr)
+
+
+class Guesses(OverLoopback):
+    """The answers to refused passwords of a connection are held back, each longer than the one before; a second is a
+    tenth of one here, and a minute is six."""
+
+    GUESS = b"USER u\r\nPASS q\r\n"
+    REFUSED = b"-ERR refused\r\n"
+
+    @classmethod
+    def setUpClass(cls):
+        cls.hurry = waits.hurry_for(cls, speed=10)
+
+    def service(self, connections):
+        return Service(self.maildir, "--connections", str(connections), **self.hurry.environment())
+
+    def sleeps(self):
+        return [asked for word, asked in self.hurry.asked() if word == "sleep"]
+
+    def guess(self, client):
+        """How long the answer to a wrong password took."""
+        client.ask(b"USER u")
+        begun = time.monotonic()
+        self.assertEqual(client.ask(b"PASS q"), self.REFUSED)
+        return time.monotonic() - begun
+
+    def test_each_waits_twice_as_long_up_to_eight_seconds(self):
+        """A new connection begins anew, and the right password is answered at once."""
+        with self.service(2) as service:
+            for _ in range(2):
+                with service.client() as client:
+                    client.line()
+                    for seconds in (1, 2, 4, 8, 8):
+                        self.assertGreater(self.guess(client), seconds / 10 * 0.9)
+                    client.ask(b"USER u")
+                    self.assertEqual(client.ask(b"PASS p"), b"+OK 0 messages\r\n")
+            self.assertEqual(service.finish(), (0, b""))
+        self.assertEqual(self.sleeps(), [1000, 2000, 4000, 8000, 8000] * 2)
+
+    def test_a_second_is_one(self):
+        with Service(self.maildir, "--connections", "1") as service, service.client() as client:
+            client.line()
+            self.assertGreater(self.guess(client), 0.95)
+            self.assertEqual(service.process.poll(), None)
+
+    def test_the_pauses_end_with_the_time_to_log_in(self):
+        """However fast it guesses, it has ten passwords in its minute, and the next client waits no longer than that."""
+        with self.service(2) as service:
+            begun = time.monotonic()
+            with service.client() as client, service.client() as next_client:
+                client.give(self.GUESS * 1000)
+                self.assertLessEqual(client.rest_or_reset().count(self.REFUSED), 10)
+                self.assertEqual(next_client.line(), READY)
+                took = time.monotonic() - begun
+            self.assertGreater(took, 5)
+            self.assertLess(took, 5 + programs.NEXT_OUTPUT_SECONDS)
+            self.assertEqual(service.finish_after_faults(), (0, b"popd: write failed\n"))
+        sleeps = self.sleeps()
+        self.assertEqual(sleeps[:9], [1000, 2000, 4000] + [8000] * 6)
+        self.assertLessEqual(sum(sleeps), 60_000)
+
+    def test_what_is_no_refused_password_is_answered_at_once(self):
+        with self.service(1) as service, service.client() as client:
+            for command in (b"PASS q", b"USER q", b"PASS", b"STAT", b"x" * 600, b"QUIT"):
+                client.ask(command)
+            client.rest()
+            self.assertEqual(service.finish(), (0, b""))
+        self.assertEqual(self.sleeps(), [])
+
+    def converse(self, given, output):
+        """Over standard input and output; the pauses."""
+        words = [programs.path_of("popd"), "u", self.maildir.passfile, self.maildir.folder]
+        done = subprocess.run(words, stdin=given, stdout=output, stderr=subprocess.PIPE, timeout=programs.SECONDS,
+                              env=programs.environment(**self.hurry.environment()))
+        self.assertEqual((done.returncode, done.stderr), (0, b""))
+        return self.sleeps() if self.hurry.note.exists() else []
+
+    def test_standard_input(self):
+        """They are held back if it is a socket, not if it is a pipe or a file."""
+        ours, theirs = socket.socketpair()
+        with ours, theirs:
+            ours.sendall(self.GUESS * 5)
+            ours.shutdown(socket.SHUT_WR)
+            self.assertEqual(self.converse(theirs, theirs), [1000, 2000, 4000, 8000, 8000])
+            theirs.close()
+            self.assertEqual(ours.makefile("rb").read().count(self.REFUSED), 5)
+        with tempfile.TemporaryFile() as file:
+            file.write(self.GUESS * 5)
+            file.seek(0)
+            self.assertEqual(self.converse(file, subprocess.DEVNULL), [])
+        reader, writer = os.pipe()
+        with open(reader, "rb") as given, open(writer, "wb") as end:
+            end.write(self.GUESS * 5)
+            end.close()
+            self.assertEqual(self.converse(given, subprocess.DEVNULL), [])
+
+
 class Memory(OverLoopback):
     """Memory does not grow with what a client sends that isn't logged in, however much it is."""
 
@@ -294,7 +412,7 @@ class Memory(OverLoopback):
 
     def test_sixteen_mebioctets_on_one_connection(self):
         name, password = b"USER " + b"n" * 500 + b"\r\n", b"PASS " + b"q" * 500 + b"\r\n"
-        pieces = ((name, 15), (name + password, 15 + 14), (b"NOOP" + b" " * 100 + b"\r\n", 14),
+        pieces = ((name, 15), (password, 17), (b"NOOP" + b" " * 100 + b"\r\n", 14),
                   (b"x" * 600 + b"\r\n", 18), (b"\0" * 100 + b"\r\n", 18), (b"x" * 65_536, 0), (b"\n" * 4096, 0),
                   (b"\r" * 4096, 0))
         with Service(self.maildir, "--connections", str(len(pieces) + 2)) as service:

@@ -554,6 +554,19 @@ class Reads(unittest.TestCase):
             for command in (b"TOP 2 300", b"RETR 2"):
                 self.assertEqual(client.ask(command), b"-ERR message unavailable\r\n")
 
+    def test_each_answer_begins_at_the_start(self):
+        """Of the first a part was read; of the others all."""
+        head, line = b"Subject: b\r\n\r\n", b"b" * 79 + b"\r\n"
+        self.maildir.add("new", "b", b"Subject: b\n\n" + (b"b" * 79 + b"\n") * 2_000)
+        whole = b"+OK %d octets\r\n" % (len(head) + 2_000 * len(line)) + head + line * 2_000 + b".\r\n"
+        with Service(self.maildir) as service, service.client() as client:
+            client.log_in()
+            for _ in range(2):
+                self.assertEqual(client.ask_lines(b"TOP 2 1"), b"+OK\r\n" + head + line + b".\r\n")
+                self.assertEqual(client.ask_lines(b"RETR 2"), whole)
+                self.assertEqual(client.ask_lines(b"RETR 1"), self.answer)
+                self.assertEqual(client.ask_lines(b"RETR 2"), whole)
+
     def test_a_size_that_cannot_be_counted_to_its_end(self):
         self.when.touch()
         with self.meddled(broken=self.path) as service, service.client() as client:

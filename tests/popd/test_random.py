@@ -9,6 +9,7 @@ import random
 import socket
 import unittest
 
+from harness import waits
 from popd import expected
 from popd.service import Maildir, Service
 
@@ -43,7 +44,7 @@ def random_lines(source):
     return b"".join(line + b"\r\n" for line in lines)
 
 
-def check_seed(test, seed):
+def check_seed(test, seed, **environment):
     """One Maildir and one conversation."""
     source = random.Random(seed)
     with Maildir() as maildir:
@@ -51,7 +52,7 @@ def check_seed(test, seed):
         machine = expected.Machine(expected.messages_of(maildir.folder))
         before, given = maildir.names(), random_lines(source)
         answers = b"".join(expected.answers(given, machine))
-        with Service(maildir, "--connections", "1") as service, service.client() as client:
+        with Service(maildir, "--connections", "1", **environment) as service, service.client() as client:
             client.give(given)
             client.socket.shutdown(socket.SHUT_WR)
             test.assertEqual(client.rest_or_reset() if machine.is_closed else client.rest(), answers, given)
@@ -62,6 +63,8 @@ def check_seed(test, seed):
 
 class RandomMaildirs(unittest.TestCase):
     def test_random_maildirs(self):
+        """The pauses after refused passwords are cut short."""
+        hurry = waits.hurry_for(type(self), speed=10)
         for seed in range(SEEDS):
             with self.subTest(seed=seed):
-                check_seed(self, seed)
+                check_seed(self, seed, **hurry.environment())

@@ -216,17 +216,22 @@ class ChangesBeforeQuit(Removals):
     """The listed file is the one that is where it was listed, or has its length and time of change."""
 
     def test_the_listed_file_is_gone_and_another_has_its_name(self):
+        """Even if it has the listed one's length."""
         for part, name in (("new", "a"), ("cur", "a:2,T"), ("cur", "a:2,")):
-            with self.subTest(name):
-                listed = self.fill()
-                other = os.fsdecode(self.maildir.add(part, name, b"never read\n"))
-                if name == "a:2,":
-                    # This one is listed in its place, so it comes later.
-                    os.rename(other, self.path("tmp", "a"))
-                    self.check_kept(one=listed, other=other,
-                                    before=lambda: (os.unlink(listed), os.rename(self.path("tmp", "a"), other)))
-                else:
-                    self.check_kept(one=listed, other=other, before=lambda: os.unlink(listed))
+            for content in (b"never read\n", b"two\n"):
+                with self.subTest(name, content=content):
+                    self.check_another(part, name, content)
+
+    def check_another(self, part, name, content):
+        listed = self.fill()
+        other = os.fsdecode(self.maildir.add(part, name, content))
+        if name == "a:2,":
+            # This one is listed in its place, so it comes later.
+            os.rename(other, self.path("tmp", "a"))
+            self.check_kept(one=listed, other=other,
+                            before=lambda: (os.unlink(listed), os.rename(self.path("tmp", "a"), other)))
+        else:
+            self.check_kept(one=listed, other=other, before=lambda: os.unlink(listed))
 
     def test_a_file_of_the_same_whole_name_is_in_the_other_folder(self):
         listed = self.fill(name="a")

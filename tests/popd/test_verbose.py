@@ -2,6 +2,7 @@
 
 import contextlib
 import os
+import re
 import select
 import socket
 import unittest
@@ -117,6 +118,19 @@ class Verbose(unittest.TestCase):
             self.check_told(service, f"{peer}: maildrop unavailable", f'warning: cannot read {folder}')
 
 
+def told_on_a_terminal(*words):
+    """The status of a run whose standard error is a terminal, and what it shows there."""
+    ours, theirs = os.openpty()
+    with open(ours, "rb", buffering=0) as terminal:
+        with open(theirs, "wb", buffering=0) as err:
+            status = programs.run("popd", *words, err=err).status
+        shown = b""
+        with contextlib.suppress(OSError):
+            while piece := terminal.read(65536):
+                shown += piece
+    return status, shown.replace(b"\r\n", b"\n")
+
+
 class Beginnings(unittest.TestCase):
     """Why it can't begin, after the line that says so: with the option or on a terminal."""
 
@@ -132,15 +146,7 @@ class Beginnings(unittest.TestCase):
         self.assertEqual(programs.run("popd", *self.words), programs.Run(1, b"", f"popd: {fault}\n".encode()))
         told = f"popd: {fault}\npopd: {reason}\n".encode()
         self.assertEqual(programs.run("popd", "--verbose", *self.words), programs.Run(1, b"", told))
-        ours, theirs = os.openpty()
-        with open(ours, "rb", buffering=0) as terminal:
-            with open(theirs, "wb", buffering=0) as err:
-                self.assertEqual(programs.run("popd", *self.words, err=err).status, 1)
-            shown = b""
-            with contextlib.suppress(OSError):
-                while piece := terminal.read(65536):
-                    shown += piece
-            self.assertEqual(shown.replace(b"\r\n", b"\n"), told)
+        self.assertEqual(told_on_a_terminal(*self.words), (1, told))
 
     def test_an_address_that_is_taken(self):
         self.check_told(f"cannot listen on {self.address}", f"{self.address}: Address already in use")
@@ -153,6 +159,44 @@ class Beginnings(unittest.TestCase):
     def test_a_password_file_that_is_a_folder(self):
         self.words = ("u", self.maildir.folder, self.maildir.folder)
         self.check_told(f"cannot read {self.maildir.folder}", f"{self.maildir.folder}: Is a directory")
+
+
+class Networks(unittest.TestCase):
+    """Who listens beyond this machine is told, with the option or on a terminal, that nothing is encrypted."""
+
+    def setUp(self):
+        self.maildir = self.enterContext(Maildir())
+
+    def words(self, address):
+        return ("--listen", address, "--connections", "0", "u", self.maildir.passfile, self.maildir.folder)
+
+    def told(self, address):
+        """What is told with the option and on a terminal, without the lines that say where it listens."""
+        self.assertEqual(programs.run("popd", *self.words(address)), programs.SILENT)
+        status, shown = told_on_a_terminal(*self.words(address))
+        verbose = programs.run("popd", "--verbose", *self.words(address))
+        self.assertEqual((status, verbose.status), (0, 0))
+        listening, *lines = re.sub(r":[0-9]+\b", ":PORT", verbose.err.decode()).splitlines()
+        self.assertRegex(listening, "^popd: listening on .*:PORT$")
+        self.assertEqual(re.sub(r":[0-9]+\b", ":PORT", shown.decode()).splitlines(), lines)
+        return lines
+
+    def test_all_addresses(self):
+        for address in ("0.0.0.0", "[::]") if socket.has_dualstack_ipv6() else ("0.0.0.0",):
+            told = f"popd: warning: {address}:PORT isn't loopback: password and mail go over the network unencrypted"
+            self.assertEqual(self.told(f"{address}:0"), [told])
+
+    def test_loopback(self):
+        for address in ("127.0.0.1", "127.1.2.3", "localhost"):
+            self.assertEqual(self.told(f"{address}:0"), [])
+
+    def test_loopback_of_ipv6(self):
+        try:
+            socket.create_server(("::1", 0), family=socket.AF_INET6).close()
+        except OSError:
+            self.skipTest("there is no ::1")
+        for address in ("[::1]", "[::ffff:127.0.0.1]"):
+            self.assertEqual(self.told(f"{address}:0"), [])
 
 
 class OverStandardStreams(unittest.TestCase):

@@ -1,7 +1,7 @@
-"""The discipline of a delivery over a real Maildir: written whole, flushed, renamed, the folder flushed.
+"""The discipline of a delivery over a real Maildir: written whole, flushed, put under its name, the folder flushed.
 
 The program delivers texts of 2,048 bytes. Its system calls are recorded, each of its writes is cut in two, and one call
-of fsync or rename is refused in turn.
+of fsync, link or rename is refused in turn.
 """
 
 import os
@@ -24,8 +24,8 @@ class Deliveries(unittest.TestCase):
         self.work = folder_for(self)
         self.maildir = make_maildir(self.work / "maildir")
 
-    def deliver(self, count, refused=None):
-        return self.watcher.run(self.work, "deliver", self.maildir, count, refused)
+    def deliver(self, count, refused=None, **changes):
+        return self.watcher.run(self.work, "deliver", self.maildir, count, refused, **changes)
 
     def check_left(self, files):
         """The first `files` texts are in `new`, whole; nothing is in `cur` or `tmp`."""
@@ -33,29 +33,36 @@ class Deliveries(unittest.TestCase):
         self.assertEqual(left, {name_of(number): TEXT for number in range(1, files + 1)})
         self.assertEqual([list((self.maildir / name).iterdir()) for name in ("tmp", "cur")], [[], []])
 
-    def check_discipline(self, calls, number):
-        """These are the calls of one whole delivery."""
+    def check_discipline(self, calls, number, has_links=True):
+        """These are the calls of one whole delivery. The name that it was written under goes once it has the other one."""
         begun, settled = calls[0][2], f"maildir/new/{name_of(number)}"
         self.assertTrue(is_own(begun, f"maildir/tmp/{stem_of(number)}"), begun)
         count, after = written(calls, begun)
         self.assertEqual(count, SIZE)
-        self.assertEqual(after, [("fsync", "done", begun), ("rename", "done", begun, settled),
-                                 ("fsync", "done", "maildir/new")])
+        named = [("link", "done", begun, settled), ("unlink", "done", begun)] if has_links else \
+            [("link", "failed", begun, settled), ("rename", "done", begun, settled)]
+        self.assertEqual(after, [("fsync", "done", begun), *named, ("fsync", "done", "maildir/new")])
 
-    def test_written_whole_flushed_renamed_and_the_folder_flushed(self):
-        run, calls = self.deliver(3)
+    def check_deliveries(self, has_links, **changes):
+        run, calls = self.deliver(3, **changes)
         self.assertEqual((run.status, run.err), (0, b""))
         self.check_left(3)
         ends = [place + 1 for place, call in enumerate(calls) if call == ("fsync", "done", "maildir/new")]
         self.assertEqual(len(ends), 3)
         for number, (begin, end) in enumerate(zip([0, *ends], ends), 1):
-            self.check_discipline(calls[begin:end], number)
+            self.check_discipline(calls[begin:end], number, has_links)
             self.assertGreater([call[0] for call in calls[begin:end]].count("write"), 2, "each write is cut in two")
 
-    def test_each_refused_call(self):
-        """The calls of two deliveries are fsync of the file, rename, fsync of the folder, and the same again.
+    def test_written_whole_flushed_put_under_its_name_and_the_folder_flushed(self):
+        self.check_deliveries(True)
 
-        A refused call ends the run. Its file is in `new` only if it was renamed.
+    def test_on_a_file_system_without_second_names(self):
+        self.check_deliveries(False, WATCH_NO_LINKS="1")
+
+    def test_each_refused_call(self):
+        """The calls of two deliveries are fsync of the file, link, fsync of the folder, and the same again.
+
+        A refused call ends the run. Its file is in `new` only if it got its name there.
         """
         for refused, files in ((1, 0), (2, 0), (3, 1), (4, 1), (5, 1), (6, 2)):
             with self.subTest(refused=refused):
@@ -114,13 +121,23 @@ class Deliveries(unittest.TestCase):
         self.assertEqual(left, {stem_of(3) + mark, link.name, *stays})
         self.assertTrue((self.maildir / "new" / name_of(1)).exists())
 
-    def test_no_delivery_over_a_link_that_leads_nowhere(self):
-        link = self.maildir / "new" / name_of(1)
-        link.symlink_to("nowhere")
-        run, _ = self.deliver(1)
-        self.assertEqual(run.status, 1)
-        self.assertTrue(link.is_symlink())
-        self.assertEqual(list((self.maildir / "tmp").iterdir()), [])
+    def test_nothing_is_replaced(self):
+        """Whatever has the name, the delivery is refused and leaves it, also where no second names can be given."""
+        other = self.work / "other"
+        other.write_bytes(b"other")
+        taken = self.maildir / "new" / name_of(1)
+        for make in (lambda: taken.write_bytes(b"other"), lambda: taken.symlink_to("nowhere"), lambda: os.mkfifo(taken),
+                     lambda: taken.symlink_to(other), lambda: os.link(other, taken)):
+            for changes in ({}, {"WATCH_NO_LINKS": "1"}):
+                with self.subTest(changes=changes):
+                    make()
+                    was = taken.lstat()
+                    run, _ = self.deliver(1, **changes)
+                    self.assertEqual(run.status, 1)
+                    self.assertEqual(taken.lstat().st_ino, was.st_ino)
+                    self.assertEqual(other.read_bytes(), b"other")
+                    self.assertEqual(list((self.maildir / "tmp").iterdir()), [])
+                    taken.unlink()
 
 
 class Listings(unittest.TestCase):

@@ -49,11 +49,11 @@ class Watcher:
     def __init__(self, library):
         self.library = library
 
-    def run(self, work, word, path, count, refused=None):
+    def run(self, work, word, path, count, refused=None, **changes):
         """The run, and the calls: word, outcome and paths, taken from the folder `work`."""
         note = work / "note"
         note.unlink(missing_ok=True)
-        changes = {"LD_PRELOAD": str(self.library), "WATCH_NOTE": str(note)}
+        changes |= {"LD_PRELOAD": str(self.library), "WATCH_NOTE": str(note)}
         if refused is not None:
             changes["WATCH_REFUSED"] = str(refused)
         run = programs.run("probe", word, str(path), str(count), **changes)

@@ -18,7 +18,7 @@ pub use laws::{
     only_asked_for_are_fetched, only_firsts_are_fetched, plans_fetch_wanted, rows_join_in_one_way,
     wanted_are_first,
 };
-pub use mail_terms::{Listing, ListingFault, MESSAGE_LIMIT, ScanRow, UidRows, is_legal_id};
+pub use mail_terms::{Listing, ListingFault, MESSAGE_LIMIT, ScanRow, UidRow, UidRows, is_legal_id};
 pub use plans::{
     SECONDS_PER_DAY, Skip, Step, ask_nothing, may_be_deleted, plan, plan_of_known, plan_without,
 };

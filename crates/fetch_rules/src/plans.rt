@@ -49,6 +49,17 @@ pub struct Step {
     pub delete: bool,
 }
 
+impl Step {
+    ghost use Rattle.fetch_rules.specs.Plan.{fetches};
+
+    /// Whether its text is fetched.
+    pub fn retrieve(&self) -> bool
+        ensures { result ≡ fetches self.now }
+    {
+        self.skip.is_none()
+    }
+}
+
 /// Whether what was first seen at a second is to be deleted now. The difference is 0 if the clock
 /// went back.
 fn is_due(settings: &Settings, now: u64, since: u64) -> bool

@@ -2,13 +2,13 @@
 -- what is promised of any list, and the order of the maildrops, give the headlines.
 use Rattle.std.{
   proofs.Common.{◌≡◌, ◌⊎◌, inl, inr, ℕ, true, List, [], ◌∷◌, ◌++◌, refl, sym, ap, subst, ◌∙◌, arith, length, false, Bool, length-append},
-  proofs.Common.{◌||◌, map},
+  proofs.Common.{◌||◌, ◌&&◌, map, not, append_assoc, bytes_eq},
   proofs.Math.Logic.⊎_elim,
-  proofs.lemmas.{Slice.Eq.bytes_eq-Decides, List.{append-nil, Folds.flat_map-map}},
+  proofs.lemmas.{Slice.Eq.bytes_eq-Decides, List.{append-nil, append_cancel_left, Folds.flat_map-map}},
   proofs.lemmas.Bool.{both_ways, false_from_ne_true, or_left, cases_Bool},
   specs.{String.string_bytes, List.AllByRecursion},
 }
-use Rattle.pop3_wire.specs.{declared.wire.Wire.Ghosts as WireGhosts, World.{Message, IsWorld}}
+use Rattle.pop3_wire.specs.{declared.wire.Wire.Ghosts as WireGhosts, World.{Message}}
 use Rattle.mail_store.specs.{
   declared.{maildir.disk.MaildirDisk.Ghosts as DiskGhosts, file.flat_file.FlatFile.Ghosts as FileGhosts},
   FileName.{IsAccountText, name_of, names_id, stem_of},
@@ -27,21 +27,25 @@ use Rattle.fetch_session.specs.{
 use Rattle.fetch_runs.{
   specs.{Accounts.{AccountMail, files, message_ids, is_selected, without, texts_of, copies, selected, without_flags}, Steps.holds},
   specs.Promises.{Mail, State, state_with, IsBetween, Invariant, Call, Devices, AppendsMail, Base, HoldsEntries, IsMaildrop, IsSafe},
-  specs.Promises.{IsFront, ShowsNext, is_safe, IsMboxFront},
-  specs.{Sessions.{SessionOverLink, MboxMail}, Below.Below, Losses.{TrustsMbox, IsFileLeft, IsMboxSafe}},
-  specs.Calls.{Called, CallsKeepPromises, EmptyAccountsHold, Left, with_left, IsCall, Shows, DurableMboxesAreSafe, MboxCallsKeepPromises},
-  specs.Calls.ShowsMbox,
+  specs.Promises.{Stands, is_entered},
+  specs.Promises.{ComesFor, IsFront, IsTextOf, ShowsNext, is_safe, IsMboxFront},
+  specs.{Sessions.{SessionOverLink, MboxMail, entries_of}, Below.Below},
+  specs.Losses.{IsFileLeft, IsMboxSafe, KeepsRecorded, ShowsAll, TrustsMbox, TrustsRecord},
+  specs.Calls.{Called, CallsKeepPromises, EmptyAccountsHold, Left, Lost, with_left, IsCall, Shows, DurableMboxesAreSafe},
+  specs.Calls.MboxCallsKeepPromises,
+  specs.Calls.{BeginsWithEntries, KeepsEntries, ShowsMbox},
   specs.Headline.{World, IsSound, HoldsAPrefix, EmptyFrontsBegin, NoneTaken, TakenStaysAway, selected_of, MboxFrontsBegin, IsInOrder},
   specs.Headline.{EntriesMeanTexts, world_without, Headline, MboxHeadline, HoldsAMboxPrefix, IsUnbegun},
-  proofs.{LeftRecords.{LeavesDurably, leaves_durably}, MboxLeft.{Holds, session_left}, Safety.texts_stand},
+  proofs.{LeftRecords.{LeavesDurably, leaves_durably}, MboxLeft.{Holds, may_seen, session_left}, Recorded.keeps_recorded},
+  proofs.Safety.texts_stand,
   proofs.Losses.{all_left_durable, calls_keep_order, calls_keep_safe, durable_is_safe, left_keeps_front, left_keeps_safe, others_keep_safe},
   proofs.Losses.{losses_keep_order, losses_leave_kept, others_keep_order, front_stays, left_front},
   proofs.Lists.{left_or_none, all_filter, all_ids_at, all_map, all_front, are_distinct, distinct_filter, distinct_is, front_is, is_some},
-  proofs.Lists.{no_texts, all_at, bytes_self, ids_both, all_mapped, none_or_one, same_held},
+  proofs.Lists.{Distinct, no_texts, all_at, bytes_self, other_id, ids_both, all_mapped, none_or_one, same_held},
   proofs.{MboxPromised.{appends, starts, ends_whole, open_row}, Steps.{mbox_sessions_lose_nothing, sessions_lose_nothing}},
   proofs.Promised.{IsSession, others_leave_kept, sessions_keep_promises, copies_came, copies_messages, held_copies, named_messages},
   proofs.Promised.one_text,
-  proofs.Core.{next_here, prefix_left, done_legal, done_distinct},
+  proofs.Core.{AreLegal, next_here, prefix_left, done_legal, done_distinct},
 }
 use Rattle.mail_terms.specs.{UniqueId.{is_legal_id, has_id}, Text.IsWhole}
 use Rattle.fetch_record.specs.Record.{is_delivered}
@@ -62,11 +66,13 @@ pub record IsLeft {W D F : Type 0} (link : WireGhosts W) (disk : DiskGhosts D) (
   pub session : IsSession mail (record account { maildir = left }) call sent after
   pub taken_is : after.maildir.taken ≡ left.taken
   pub leaves : LeavesDurably file mail.account devices.file call.after.file (record account { maildir = left }) after
+  pub keeps : TrustsRecord file devices.file call.after.file → ShowsAll account.rows after.rows
+      → KeepsRecorded (file.disk devices.file) (file.disk call.after.file) account.rows after.rows call.report.outcome
 
 calls_leave : Below → {W D F : Type 0} (link : WireGhosts W) (disk : DiskGhosts D) (file : FileGhosts F) (mail : Mail)
     (account : AccountMail) (devices : Devices D F) (call : Call W D F)
     → Shows disk file devices account → digits_of call.settings ≡ mail.account
-    → IsCall link disk file InMaildir disk.sound mail.text devices call → IsLeft link disk file mail account devices call
+    → IsCall link disk file InMaildir disk.sound (ComesFor mail) devices call → IsLeft link disk file mail account devices call
 calls_leave laws link disk file mail account devices call shows account_is is =
     let met = is.made.2 is.link_sound is.store_sound is.file_sound in
     let left : Maildir = met.4.0 in
@@ -100,6 +106,8 @@ calls_leave laws link disk file mail account devices call shows account_is is =
           (leaves_durably laws file devices.store call.after.store
           (laws.digits (string_bytes call.settings.server) call.settings.port (string_bytes call.settings.username))
           devices.file call.after.file met.4.2.0 account.rows s.rows' (shows.intent, shows.record_is) s.keeps met.4.2.1);
+      keeps = λ trust stays. keeps_recorded laws file (InMaildir devices.store) (InMaildir call.after.store) devices.file
+          call.after.file met.4.2.0 account.rows s.rows' (shows.intent, shows.record_is) s.keeps (tt, trust.0) trust.1 stays met.4.2.1;
     }
 
 -- readers that take files away are others that do so between two sessions
@@ -142,6 +150,7 @@ calls_keep_promises laws {W} {D} {F} link disk file = keep
               safe = λ trust safe. calls_keep_safe laws file devices.file call.after.file mail
                   (with_left mail state it.left) call it.sent it.after here it.session
                   it.leaves trust (left_keeps_safe (file.disk devices.file) mail state it.left kept it.taken safe);
+              keeps = λ trust. it.keeps trust done.0.recorded;
               in_order = λ all legal front next clear. calls_keep_order mail (own mail.account account) file devices.file
                   call.after.file (with_left mail state it.left) call it.sent it.after done.0 it.leaves all legal
                   (left_keeps_front mail state it.left kept it.taken all legal front) next clear;
@@ -159,6 +168,10 @@ calls_keep_promises laws {W} {D} {F} link disk file = keep
         ),
         keep mail (state_with mail state [] account) left later then (others_leave_kept mail state account kept between),
       ),
+    )
+    keep mail state devices (Lost left account ∷ later) shows kept = (
+      shows,
+      kept,
       λ safe lost.
           let loses : LosesPower state.account.maildir account.maildir = rw (shows.maildir, lost.shows.maildir) lost.maildir in
           let now = losses_leave_kept (file.disk devices.file) mail state account (file.stored left.file).content
@@ -184,7 +197,7 @@ pub mbox_calls_append : Below → {W D F : Type 0} (link : WireGhosts W) (disk :
     → MboxSessions link disk file → (base : Base) (done : List Message) (account : MboxMail)
     (devices : Devices F F) (call : Call W F F) → ShowsMbox file devices account
     → (holds : HoldsEntries base done account) → call.settings.read_all ≡ false
-    → IsCall link disk file InMbox file.sound base.text devices call → (sent : List ℕ) × (after : MboxMail)
+    → IsCall link disk file InMbox file.sound (IsTextOf base) devices call → (sent : List ℕ) × (after : MboxMail)
     × ((link.history call.wire').sent ≡ (link.history call.wire).sent ++ sent)
     × ShowsMbox file call.after after × AppendsMail base holds call sent after
 mbox_calls_append laws link _ file sessions base _ account devices call shows holds only_new is =
@@ -204,6 +217,19 @@ mbox_calls_append laws link _ file sessions base _ account devices call shows ho
           (rw (← shows.bytes) at s.session),
     )
 
+-- what may be left of the record's file after a call
+mbox_calls_keep_recorded : Below → {W D F : Type 0} (link : WireGhosts W) (disk : DiskGhosts D) (file : FileGhosts F)
+    → MboxSessions link disk file → (base : Base) (account after : MboxMail) (devices : Devices F F) (call : Call W F F)
+    → ShowsMbox file devices account → IsCall link disk file InMbox file.sound (IsTextOf base) devices call
+    → ShowsMbox file call.after after → ShowsAll account.rows after.rows → TrustsMbox file devices call.after
+    → KeepsRecorded (file.disk devices.file) (file.disk call.after.file) account.rows after.rows call.report.outcome
+mbox_calls_keep_recorded laws {D = D} link _ file sessions base account after devices call shows is shows' stays trust =
+    let met = sessions call.now (record { settings = call.settings; store = _; file = devices.file })
+    (record { settings = call.settings; store = _; file = call.after.file }) call.wire call.wire' call.report is.made.1 is.made.2
+    is.link_sound is.store_sound is.file_sound in
+    keeps_recorded laws {D = D} file (InMbox devices.store) (InMbox call.after.store) devices.file call.after.file met.4.0
+    account.rows after.rows (account.intent, shows.record_is) (after.intent, shows'.record_is) (trust.1, trust.0.0) trust.0.1 stays met.4.1
+
 -- if whatever may be left of both files before a call holds entries, it does after it; and the first messages of these
 -- lists have them, if they had and the server shows what is next
 mbox_calls_keep_safe : Below → {W D F : Type 0} (link : WireGhosts W) (disk : DiskGhosts D) (file : FileGhosts F)
@@ -212,7 +238,7 @@ mbox_calls_keep_safe : Below → {W D F : Type 0} (link : WireGhosts W) (disk : 
     (call : Call W F F) → ShowsMbox file devices account → (holds : HoldsEntries base done account)
     → ((all : List Message) → Among all → (front : IsMboxFront base holds all)
     × ShowsNext call.settings call.maildrop (front.first ++ done) front.rest) → call.settings.read_all ≡ false
-    → IsCall link disk file InMbox file.sound base.text devices call → ShowsMbox file call.after after
+    → IsCall link disk file InMbox file.sound (IsTextOf base) devices call → ShowsMbox file call.after after
     → Holds base Among done' after → TrustsMbox file devices call.after
     → IsMboxSafe (Holds base Among) file devices → IsMboxSafe (Holds base Among) file call.after
 mbox_calls_keep_safe laws {D = D} link _ file shown sessions base Among done done' account after devices call shows holds fronts
@@ -250,6 +276,45 @@ mbox_losses_leave file Holds devices left now shows safe mbox held = (
       (first, subst (λ (bytes : List ℕ). Holds first (record now { file = bytes })) (sym shows.bytes) holds),
 )
 
+-- more entries
+pub entered_more : (base : Base) (done more : List Message) (id : List ℕ) → is_entered base done id ≡ true
+    → is_entered base (done ++ more) id ≡ true
+entered_more base done more id is = grind (arith, is, ids_both done more id)
+
+-- those whose ids weren't recorded before are those that are entered and weren't
+entered_since : (base : Base) (done : List Message) → AllByRecursion (λ (m : Message). base.had m.uid ≡ false) done
+    → (id : List ℕ) → has_id (message_ids done) id ≡ is_entered base done id && not (base.had id)
+entered_since base done new id = ⊎_elim
+    (λ (had : base.had id ≡ true). false_from_ne_true _ (λ there. both_ways _ (all_at (λ x. base.had x ≡ false) done new there) had)
+    ∙ rw had refl)
+    (λ (unknown : base.had id ≡ false). grind (arith, unknown))
+    (cases_Bool (base.had id))
+
+-- what the file is that holds entries
+stands_as : (base : Base) (bytes : List ℕ) (account : MboxMail) → Stands base bytes account
+    → (part : List ℕ) × (account.file ≡ bytes ++ part)
+stands_as base bytes account stands = elim stands [
+  | inl is ↦ ([], is.1 ∙ sym (append-nil bytes))
+  | inr open_for ↦ (open_for.part, open_for.file)
+]
+
+-- beside whatever a loss of power leaves of the file, what calls see of the record may be left, which shows all entries
+mbox_losses_keep : {F : Type 0} (file : FileGhosts F) → ((f : F) → seen_on (file.disk f) ≡ (file.stored f).content)
+    → (base : Base) (done : List Message) (account : MboxMail) (devices left : Devices F F) (now : MboxMail)
+    → ShowsMbox file devices account → HoldsEntries base done account → ShowsMbox file left now
+    → IsMboxSafe (HoldsEntries base) file devices → IsFileLeft file devices.store left.store → KeepsEntries base done now.file
+mbox_losses_keep file shown base done account devices left now shows holds then safe mbox =
+    let (kept, is) = safe account.rows account.intent (file.stored devices.file).content (file.stored left.store).content
+    (may_seen file devices.file (shown devices.file)) shows.record_is mbox.is in
+    let (part, whole) = stands_as base (base.start ++ entries_of kept) _ is.stands in
+    record {
+      kept = kept;
+      are = is.are;
+      same = λ id. entered_since base kept is.new id
+          ∙ ap (λ b. b && not (base.had id)) (sym (is.recorded id) ∙ holds.recorded id) ∙ sym (entered_since base done holds.new id);
+      begins = (part, then.bytes ∙ whole);
+    }
+
 pub mbox_calls_keep_promises : Below → {W D F : Type 0} (link : WireGhosts W) (disk : DiskGhosts D) (file : FileGhosts F)
     → ((f : F) → seen_on (file.disk f) ≡ (file.stored f).content) → MboxSessions link disk file → MboxCallsKeepPromises link disk file
 mbox_calls_keep_promises laws link disk file shown sessions = keep
@@ -274,30 +339,89 @@ mbox_calls_keep_promises laws link disk file shown sessions = keep
                 let (first, there) = safe rows intent left bytes may keeps also in (first, (there, λ _ never. absurd never)))
                 rows intent left bytes may keeps also in
                 (first, there.0),
+            mbox_calls_keep_recorded laws link disk file sessions base account after devices call shows is shows'
+                (λ id recorded. one.kept.recorded id ∙ entered_more base done one.more id (sym (holds.recorded id) ∙ recorded)),
             keep base (done ++ one.more) after call.after later shows' one.kept,
           ),
     )
-    keep base _ _ devices (Left left now ∷ later) shows holds = (
+    keep base done account devices (Left left now ∷ later) shows holds =
+        (shows, holds, λ then from first there. keep from first now left later then there)
+    keep base done account devices (Lost left now ∷ later) shows holds = (
       shows,
       holds,
-      λ then. (
-        λ from first there. keep from first now left later then there,
-        λ safe mbox held.
-            let (safe', (first, there)) = mbox_losses_leave file (HoldsEntries base) devices left now then safe mbox held in
-            (safe', (first, keep base first now left later then there)),
-      ),
+      λ safe lost.
+          let then = lost.shows in
+          let (safe', (first, there)) =
+          mbox_losses_leave file (HoldsEntries base) devices left now then safe lost.mbox_is lost.record_is in (
+            mbox_losses_keep file shown base done account devices left now shows holds then safe lost.mbox_is,
+            safe',
+            (first, keep base first now left later then there),
+          ),
     )
 
--- all mail is a world
-pub as_world : (text : List ℕ → List ℕ) (all : List Message) → IsMaildrop text all → IsWorld all
-as_world _ _ is = record {
-  messages = all_map _ is.each (λ m h. record { legal = h.legal; whole = h.whole });
-  distinct = is.distinct;
-}
+-- all mail has legal and distinct ids
+are_legal : (Comes : List ℕ → List ℕ → Type 0) (all : List Message) → IsMaildrop Comes all → AreLegal all
+are_legal _ _ is = record { each = all_map _ is.each (λ m h. h.legal); distinct = is.distinct }
+
+-- what is recorded is the first of the selected messages
+recorded_is : {world : World Base} {done : List Message} {account : MboxMail} (is : HoldsAMboxPrefix world done account)
+    (id : List ℕ) → is_delivered account.rows id ≡ has_id (message_ids (is.front.first ++ done)) id
+recorded_is {done = done} is id = is.holds.recorded id ∙ ap (λ b. b || has_id (message_ids done) id) (is.front.had id)
+    ∙ sym (ids_both is.front.first done id)
+
+-- of distinct messages in a row the first that have these ids are the same ones
+same_front : (ms ns rest more : List Message) → ms ++ rest ≡ ns ++ more → Distinct (message_ids (ms ++ rest))
+    → ((id : List ℕ) → has_id (message_ids ms) id ≡ has_id (message_ids ns) id) → ms ≡ ns
+same_front [] [] _ _ _ _ _ = refl
+same_front [] (n ∷ ns) _ _ _ _ same = absurd (both_ways _ (sym (same n.uid)) (or_left _ _ (bytes_self n.uid)))
+same_front (m ∷ ms) [] _ _ _ _ same = absurd (both_ways _ (same m.uid) (or_left _ _ (bytes_self m.uid)))
+same_front (m ∷ ms) (n ∷ ns) rest more e distinct same =
+    let head : n ≡ m = cc in
+    let tail : ms ++ rest ≡ ns ++ more = cc in
+    ap (λ l. m ∷ l) (same_front ms ns rest more tail distinct.1 (λ id. later id (same id
+    ∙ ap (λ (x : Message). bytes_eq id x.uid || has_id (message_ids ns) id) head))) ∙ ap (λ x. x ∷ ns) (sym head)
+  where
+    -- neither of the two has it again
+    once : (l k : List Message) → has_id (message_ids (l ++ k)) m.uid ≡ false → has_id (message_ids l) m.uid ≡ false
+    once l k none = let parts = sym (ids_both l k m.uid) ∙ none in grind (arith, parts)
+
+    later : (id : List ℕ) → (bytes_eq id m.uid || has_id (message_ids ms) id) ≡ (bytes_eq id m.uid || has_id (message_ids ns) id)
+        → has_id (message_ids ms) id ≡ has_id (message_ids ns) id
+    later id both = elim (cases_Bool (bytes_eq id m.uid)) [
+      | inl is ↦ let tail : ms ++ rest ≡ ns ++ more = cc in
+          other_id m ms id (once ms rest distinct.0) is ∙ sym (other_id m ns id (once ns more
+          (ap (λ l. has_id (message_ids l) m.uid) (sym tail) ∙ distinct.0)) is)
+      | inr isnt ↦ grind (arith, isnt, both)
+    ]
+
+-- in order: what calls see of the record may be left beside whatever is left of the file, and it shows which are first
+mbox_losses_keep_order : {F : Type 0} (file : FileGhosts F) → ((f : F) → seen_on (file.disk f) ≡ (file.stored f).content)
+    → (world : World Base) (done : List Message) (account : MboxMail) (devices left : Devices F F) (now : MboxMail)
+    → IsMaildrop (IsTextOf world.start) world.all → ShowsMbox file devices account → HoldsAMboxPrefix world done account
+    → ShowsMbox file left now → IsMboxSafe (HoldsAMboxPrefix world) file devices → IsFileLeft file devices.store left.store
+    → BeginsWithEntries world.start done now.file
+mbox_losses_keep_order file shown world done account devices left now sound shows is then safe mbox =
+    let (kept, there) = safe account.rows account.intent (file.stored devices.file).content (file.stored left.store).content
+    (may_seen file devices.file (shown devices.file)) shows.record_is mbox.is in
+    let distinct : Distinct (message_ids (selected_of world)) = distinct_filter _ _ (distinct_is _ sound.distinct) in
+    let same_first : is.front.first ≡ there.front.first = same_front is.front.first there.front.first (done ++ is.front.rest)
+    (kept ++ there.front.rest) (sym (first_is is) ∙ first_is there)
+    (subst (λ (l : List Message). Distinct (message_ids l)) (first_is is) distinct)
+    (λ id. sym (is.front.had id) ∙ there.front.had id) in
+    let same_both = same_front (is.front.first ++ done) (there.front.first ++ kept) is.front.rest there.front.rest
+    (sym is.front.prefix ∙ there.front.prefix) (subst (λ (l : List Message). Distinct (message_ids l)) is.front.prefix distinct)
+    (λ id. sym (recorded_is is id) ∙ recorded_is there id) in
+    let same : kept ≡ done = append_cancel_left is.front.first kept done (ap (λ l. l ++ kept) same_first ∙ sym same_both) in
+    let (part, whole) = stands_as world.start (world.start.start ++ entries_of kept) _ there.holds.stands in
+    (part, then.bytes ∙ whole ∙ ap (λ ms. (world.start.start ++ entries_of ms) ++ part) same)
+  where
+    first_is : {ms : List Message} {seen : MboxMail} (h : HoldsAMboxPrefix world ms seen)
+        → selected_of world ≡ h.front.first ++ (ms ++ h.front.rest)
+    first_is {ms} h = h.front.prefix ∙ append_assoc h.front.first ms h.front.rest
 
 -- what is left of it is
-pub withdrawn : (text : List ℕ → List ℕ) (ids : List (List ℕ)) (all : List Message) → IsMaildrop text all
-    → IsMaildrop text (without ids all)
+pub withdrawn : (Comes : List ℕ → List ℕ → Type 0) (ids : List (List ℕ)) (all : List Message) → IsMaildrop Comes all
+    → IsMaildrop Comes (without ids all)
 withdrawn _ _ _ is = record {
   each = all_filter _ _ _ is.each;
   distinct = are_distinct _ (distinct_filter _ _ (distinct_is _ is.distinct));
@@ -306,8 +430,8 @@ withdrawn _ _ _ is = record {
 module _ (world : World Mail) (state : State) (sound : IsSound world) (front : IsFront world.start state (selected_of world)) where
   open world use {start as mail, max_size, all}
 
-  mail_is : IsWorld all
-  mail_is = as_world _ _ sound.all
+  mail_is : AreLegal all
+  mail_is = are_legal _ _ sound.all
 
   done_safe : (id : List ℕ) → has_id (message_ids front.done) id ≡ true → IsSafe mail state id
   done_safe id e = let l = done_legal _ front.done front.rest mail_is front.prefix id e in (l, sym (front.is_done id l) ∙ e)
@@ -315,8 +439,9 @@ module _ (world : World Mail) (state : State) (sound : IsSound world) (front : I
   safe_done : (id : List ℕ) → IsSafe mail state id → has_id (message_ids front.done) id ≡ true
   safe_done id (l, safe) = front.is_done id l ∙ safe
 
-  texts_done : (id : List ℕ) → has_id (message_ids front.done) id ≡ true → texts_of front.done id ≡ mail.text id ∷ []
-  texts_done = one_text mail.text front.done (done_distinct max_size front.done front.rest mail_is front.prefix)
+  texts_done : (id : List ℕ) → has_id (message_ids front.done) id ≡ true
+      → (text : List ℕ) × ComesFor mail id text × (texts_of front.done id ≡ text ∷ [])
+  texts_done = one_text (ComesFor mail) front.done (done_distinct max_size front.done front.rest mail_is front.prefix)
       (all_front _ front.done _ (rw front.prefix at (all_filter _ (is_selected max_size) _ sound.all.each)))
 
   holds_done : Invariant mail state → (id : List ℕ) → is_legal_id id ≡ true
@@ -327,8 +452,10 @@ module _ (world : World Mail) (state : State) (sound : IsSound world) (front : I
         ∙ sym (no_texts front.done id (front.is_done id l
         ∙ ap (λ b. b || state.taken id) (held_copies mail.account state.account id ∙ ap is_some none) ∙ untaken))))
         (cases_Bool (state.taken id))
-    | inr text ↦ inl (text ∙ sym
-        (texts_done id (safe_done id (l, or_left _ _ (held_copies mail.account state.account id ∙ ap is_some text)))))
+    | inr (text, comes, is) ↦
+        let (other, comes', is') =
+        texts_done id (safe_done id (l, or_left _ _ (held_copies mail.account state.account id ∙ ap is_some is))) in
+        inl (is ∙ ap (λ (t : List ℕ). t ∷ []) (sound.one id text other comes comes') ∙ sym is')
   ]
 
   -- exactly the first of the selected messages are held
@@ -338,7 +465,6 @@ module _ (world : World Mail) (state : State) (sound : IsSound world) (front : I
     below = let e = ap length front.prefix in omega (arith, e, length-append front.done front.rest);
     texts = λ id l. rw (front_is front.done front.rest front.prefix) (holds_done kept id l);
     ids = λ id l h. rw (front_is front.done front.rest front.prefix) (safe_done id (l, or_left _ _ h));
-    once = λ id l. none_or_one (kept.holds id l);
   }
 
 pub empty_fronts_begin : EmptyFrontsBegin
@@ -350,7 +476,7 @@ withdrawn_leave_fronts : (world : World Mail) (state : State) (ids : List (List 
     → IsSound (world_without ids world) × (later : IsFront world.start state (selected_of (world_without ids world)))
     × (later.done ≡ front.done)
 withdrawn_leave_fronts _ state ids sound front none = (
-  record { account = sound.account; all = withdrawn _ _ _ sound.all },
+  record { account = sound.account; all = withdrawn _ _ _ sound.all; one = sound.one },
   record {
     done = front.done;
     rest = without ids front.rest;
@@ -362,11 +488,11 @@ withdrawn_leave_fronts _ state ids sound front none = (
 )
 
 -- a maildrop in order shows what is next, if these are done
-order_shows_next : (text_of : List ℕ → List ℕ) (limit : ℕ) (all done rest : List Message) (settings : Settings)
-    (maildrop : List Message) → IsMaildrop text_of all → selected limit all ≡ done ++ rest
+order_shows_next : (Comes : List ℕ → List ℕ → Type 0) (limit : ℕ) (all done rest : List Message) (settings : Settings)
+    (maildrop : List Message) → IsMaildrop Comes all → selected limit all ≡ done ++ rest
     → IsInOrder limit all (λ id. has_id (message_ids done) id ≡ true) settings maildrop → ShowsNext settings maildrop done rest
-order_shows_next text_of limit all done rest _ _ are prefix order =
-    rw (order.max_size, order.shown) (next_here _ _ _ _ _ (as_world _ _ are) prefix order.done)
+order_shows_next Comes limit all done rest _ _ are prefix order =
+    rw (order.max_size, order.shown) (next_here _ _ _ _ _ (are_legal _ _ are) prefix order.done)
 
 -- ---- what is taken away
 
@@ -395,16 +521,16 @@ taken_stays_away laws _ _ _ mail state _ call id account drop is new legal recor
 
 -- what is entered is recorded, so it isn't withdrawn; nor is the next message, if its intent is open
 withdrawn_leave_prefixes : (world : World Base) (done : List Message) (account : MboxMail) (ids : List (List ℕ))
-    → IsMaildrop world.start.text world.all → (is : HoldsAMboxPrefix world done account)
-    → AllByRecursion (IsUnbegun account) ids → IsMaildrop world.start.text (without ids world.all)
+    → IsMaildrop (IsTextOf world.start) world.all → (is : HoldsAMboxPrefix world done account)
+    → AllByRecursion (IsUnbegun account) ids → IsMaildrop (IsTextOf world.start) (without ids world.all)
     × IsMboxFront world.start is.holds (selected world.max_size (without ids world.all))
 withdrawn_leave_prefixes world done account ids sound is unbegun = (
-  withdrawn base.text ids all sound,
+  withdrawn (IsTextOf base) ids all sound,
   record {
     first = is.front.first;
     rest = without ids is.front.rest;
     prefix = prefix_left max_size all (is.front.first ++ done) is.front.rest ids is.front.prefix
-        (λ id there gone. both_ways (is_delivered account.rows id) (all_ids_at _ _ unbegun gone).0 (recorded_is id ∙ there));
+        (λ id there gone. both_ways (is_delivered account.rows id) (all_ids_at _ _ unbegun gone).0 (recorded_is is id ∙ there));
     had = is.front.had;
     next = λ o e.
         let (more, first) = is.front.next o e in
@@ -415,11 +541,6 @@ withdrawn_leave_prefixes world done account ids sound is unbegun = (
 )
   where
     open world use {start as base, max_size, all}
-
-    -- what is recorded is the first of the selected messages
-    recorded_is : (id : List ℕ) → is_delivered account.rows id ≡ has_id (message_ids (is.front.first ++ done)) id
-    recorded_is id = is.holds.recorded id ∙ ap (λ b. b || has_id (message_ids done) id) (is.front.had id)
-        ∙ sym (ids_both is.front.first done id)
 
 pub mbox_fronts_begin : MboxFrontsBegin
 mbox_fronts_begin world account first rest closed prefix recorded = record {
@@ -439,7 +560,7 @@ pub entries_mean_texts : Below → EntriesMeanTexts
 entries_mean_texts laws base done account first holds closed stands =
     rw (ends_whole base done account holds closed, ← flat_map-map entry_of (λ (m : Message). m.text) done)
     (texts_stand laws.adds base.start first (map (λ (m : Message). m.text) done)
-    (all_mapped IsWhole _ done (all_map _ holds.are.each (λ m h. h.whole))) stands)
+    (all_mapped IsWhole _ done (all_map _ holds.are.each (λ m h. h.text.1))) stands)
 
 -- what is done is among these, by whichever test
 in_order : {limit : ℕ} {all : List Message} {P Q : List ℕ → Type 0} {settings : Settings} {maildrop : List Message}
@@ -471,7 +592,7 @@ headline link disk file promised = all_hold
           let legal = legal_selected (world_without withdrawn world) sound' in
           let shown : (f : IsFront world.start state (selected_of (world_without withdrawn world)))
           → ShowsNext call.settings call.maildrop f.done f.rest =
-          λ f. order_shows_next world.start.text world.max_size (world_without withdrawn world).all f.done f.rest
+          λ f. order_shows_next (ComesFor world.start) world.max_size (world_without withdrawn world).all f.done f.rest
           call.settings call.maildrop sound'.all f.prefix (in_order (λ id (l, safe). f.is_done id l ∙ safe) order) in (
             promises,
             (
@@ -492,12 +613,17 @@ headline link disk file promised = all_hold
           ),
     )
     all_hold world state devices (Left left account ∷ later) sound shows kept front =
-        let (_, _, others, loss) = promised world.start state devices (Left left account ∷ []) shows kept in (
+        let (_, _, others) = promised world.start state devices (Left left account ∷ []) shows kept in (
           shows,
           holds_a_prefix world state sound front kept,
           λ then between back.
               let (safe, (after_shows, after_kept)) = others then between in
               all_hold world _ left later sound after_shows after_kept (front_stays world.start state account _ front back),
+        )
+    all_hold world state devices (Lost left account ∷ later) sound shows kept front =
+        let (_, _, loss) = promised world.start state devices (Lost left account ∷ []) shows kept in (
+          shows,
+          holds_a_prefix world state sound front kept,
           λ safe durable lost.
               let (safe', fronts, (after_shows, after_kept)) = loss safe lost in
               all_hold world _ left later sound after_shows after_kept (fronts (selected_of world) (legal_selected world sound) durable).is,
@@ -516,7 +642,7 @@ mbox_headline laws link disk file seen sessions = all_hold
           let (sound', front) = withdrawn_leave_prefixes world done account withdrawn sound is unbegun in
           let (sent, after, sent_is, shows', one) = mbox_calls_append laws link disk file sessions world.start done
           account devices call shows is.holds only_new called in
-          let shown = order_shows_next world.start.text world.max_size (world_without withdrawn world).all
+          let shown = order_shows_next (IsTextOf world.start) world.max_size (world_without withdrawn world).all
           (front.first ++ done) front.rest call.settings call.maildrop sound' front.prefix
           (in_order (λ id entered. ids_both front.first done id
           ∙ ap (λ (b : Bool). b || has_id (message_ids done) id) (sym (front.had id)) ∙ entered) order) in (
@@ -545,13 +671,17 @@ mbox_headline laws link disk file seen sessions = all_hold
                 (record { holds = one.kept; front = one.in_order _ front shown }),
           ),
     )
-    all_hold world _ _ devices (Left left now ∷ later) sound shows is = (
+    all_hold world done account devices (Left left now ∷ later) sound shows is =
+        (shows, is, λ then from held sound' there. all_hold (record world { start = from }) held now left later sound' then there)
+    all_hold world done account devices (Lost left now ∷ later) sound shows is = (
       shows,
       is,
-      λ then. (
-        λ from held sound' there. all_hold (record world { start = from }) held now left later sound' then there,
-        λ safe mbox record_left.
-            let (safe', (held, there)) = mbox_losses_leave file (HoldsAMboxPrefix world) devices left now then safe mbox record_left
-            in (safe', (held, all_hold world held now left later sound then there)),
-      ),
+      λ safe lost.
+          let then = lost.shows in
+          let (safe', (held, there)) =
+          mbox_losses_leave file (HoldsAMboxPrefix world) devices left now then safe lost.mbox_is lost.record_is in (
+            mbox_losses_keep_order file seen world done account devices left now sound shows is then safe lost.mbox_is,
+            safe',
+            (held, all_hold world held now left later sound then there),
+          ),
     )

@@ -8,8 +8,8 @@ use Rattle.std.{
   proofs.lemmas.List.FromFn.{length-enumerate_from, get_or-enumerate_from},
   specs.{Prelude.{bytes_eq, is_none, zip}, List.{filter, enumerate_from, AllByRecursion}},
 }
-use Rattle.pop3_wire.specs.{World.{Message, IsWorld, maildrop_of}, declared.command.Command.Command}
-use Rattle.mail_terms.specs.{Listing.{Item, has_item}, UniqueId.{has_id, is_legal_id}}
+use Rattle.pop3_wire.specs.{World.{Message, maildrop_of}, declared.command.Command.Command}
+use Rattle.mail_terms.specs.{Distinct.AreDistinct, Listing.{Item, has_item}, UniqueId.{has_id, is_legal_id}}
 use Rattle.fetch_record.specs.Record.{Row, is_delivered}
 use Rattle.fetch_rules.{specs.Wanted.{WantedAreFirst, at_most, fitting, own_skip, wanted}, proofs.PlanLemmas.own_passes}
 use Rattle.rc_file.specs.declared.settings.Settings.{Settings}
@@ -183,14 +183,20 @@ bridge fit left (x ∷ xs) (m ∷ ms) later rest d e h = elim (cases_Bool (fit m
 abbrev pub IsLegal : Message → Type 0
 IsLegal m = is_legal_id m.uid ≡ true
 
+-- messages with legal and distinct ids
+pub record AreLegal (all : List Message) : Type 0 where
+  pub each : AllByRecursion IsLegal all
+  pub distinct : AreDistinct (message_ids all)
+
 -- they have distinct and legal ids
-module _ (limit : ℕ) {all : List Message} (done rest : List Message) (mail : IsWorld all) (prefix : selected limit all ≡ done ++ rest) where
+module _ (limit : ℕ) {all : List Message} (done rest : List Message) (mail : AreLegal all)
+    (prefix : selected limit all ≡ done ++ rest) where
   pub done_distinct : Distinct (message_ids done)
   done_distinct = rw (← front_is done rest prefix) (distinct_take _ _ (distinct_filter _ _ (distinct_is _ mail.distinct)))
 
   pub done_legal : (id : List ℕ) → has_id (message_ids done) id ≡ true → is_legal_id id ≡ true
-  done_legal _ = all_at _ _ (all_front _ done _ (rw prefix at
-      (all_filter _ (is_selected limit) _ (all_map _ mail.messages (λ m h. h.legal)))))
+  done_legal _ = all_at (λ x. is_legal_id x ≡ true) done (all_front IsLegal done rest (rw prefix at
+      (all_filter IsLegal (is_selected limit) all mail.each)))
 
 -- ---- messages that are withdrawn
 
@@ -303,14 +309,14 @@ next_in limit done ms = filter (λ (m : Message). is_selected limit m && not (ha
 
 -- of a maildrop that keeps its order it is the first of what is left
 pub next_here : (limit : ℕ) {all : List Message} (come : ℕ) (gone : List (List ℕ)) (done rest : List Message)
-    → IsWorld all → selected limit all ≡ done ++ rest → AllByRecursion (λ id. has_id (message_ids done) id ≡ true) gone
+    → AreLegal all → selected limit all ≡ done ++ rest → AllByRecursion (λ id. has_id (message_ids done) id ≡ true) gone
     → BeginsWith (next_in limit done (maildrop_of all come gone)) rest
 next_here limit {all} come gone done rest mail prefix all_gone =
     simp filter-filter (bridge fit
     (λ (m : Message). not (has_id gone m.uid) && (fit m && not (has_id (message_ids done) m.uid))) done (take come all)
     (filter fit (drop come all)) rest (distinct_take come all (distinct_is all mail.distinct))
     (sym (filter-append fit (take come all) (drop come all)) ∙ ap (filter fit) (take-append-drop come all) ∙ prefix)
-    (all_map _ (all_take _ come all mail.messages) (λ m _. grind (arith, λ (g : has_id gone m.uid ≡ true). all_ids_at _ _ all_gone g))))
+    (all_map _ (all_take _ come all mail.each) (λ m _. grind (arith, λ (g : has_id gone m.uid ≡ true). all_ids_at _ _ all_gone g))))
   where
     fit : Message → Bool
     fit m = is_selected limit m

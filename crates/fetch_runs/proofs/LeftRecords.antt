@@ -21,7 +21,8 @@ use Rattle.fetch_session.{
   specs.{Record.{Keeps, KeepsRows, Steady, record_state}, Laws.LeavesDurable, Store.RefusesText, Report.Reports},
   specs.Durable.{AreLeft, AreTrusted, DurableCarried, DurableCarries, IsRecordUntouched, Durably, LeavesFile, IsGrownAtMost, LeavesStore},
   specs.Durable.{LeavesMerged, DurableProceeds, DurableSession, UnlessQuiet, DurableUnready, IsSafeFile},
-  specs.declared.{account.Store.{Store, TheVariants.Maildir as InMaildir}, fault.Cut.Cut, report.{Report.Report, Skips.Skips}},
+  specs.declared.{account.Store.{Store, TheVariants.Maildir as InMaildir}, fault.Cut.Cut},
+  specs.declared.report.{Outcome.{TheVariants.Ended}, Report.Report, Skips.Skips},
   specs.{CarryingOut.{Carried, Carries, tasks_ahead}, Readiness.{IsMerged, IsMergedAtMost, IsAnew, IsFileKept, Unready}},
   specs.{Scene.{Does, FileNotSaved, NoFile, Scene, Stops, Went, scene}, Target.{Target, AsFiles, in_maildir}},
   specs.Session.{Dealt, Keeping, LeavesLink, Proceeds, Session, SessionIn, account_files, keeps_files, outcome_of},
@@ -185,10 +186,10 @@ pub merge_reads : Below → {was now : RecordState} {left : Option (List ℕ)} (
 merge_reads laws then (inl grown) stands = grown_reads laws then grown stands
 merge_reads laws then (inr grown) stands = inr (same_reads laws then grown stands)
 
-abbrev rows_in : {a b : RecordState} → a ≡ b → a.rows ≡ b.rows
+abbrev pub rows_in : {a b : RecordState} → a ≡ b → a.rows ≡ b.rows
 rows_in same = ap (λ (r : RecordState). r.rows) same
 
-left_stands : Below → {rows others : List Row} {left : Option (List ℕ)} (now : List Row) → AreLeft rows others left
+pub left_stands : Below → {rows others : List Row} {left : Option (List ℕ)} (now : List Row) → AreLeft rows others left
     → KeepsRows left now → (now ≡ rows) ⊎ (now ≡ others)
 left_stands laws now is (intent, stands) =
     ⊎_elim (λ same. inl (rows_in same)) (λ same. ⊎_map (λ e. rows_in same ∙ e) (λ e. rows_in same ∙ e) is.next_is)
@@ -334,6 +335,27 @@ module _ {D F : Type 0} (files : FileGhosts F) (was : Store D F) (from : F) {set
               session.mid after.store after.file session.notes.lines session.notes.skipped carries store f → Way
           of (_, inl (_, is)) all = NotReady _ cut is.unready (all trusted)
           of (_, inr c) all = begun _ leaves reports dealt c all
+
+  -- an uncut session wrote nothing to the record's file, or all of it is durable
+  pub ended_way : DurableSession files was from session store f → AreTrusted files was from → report.outcome ≡ Ended
+      → IsRecordUntouched files from f ⊎ IsSafeFile files f
+  ended_way durable trusted ended = by session.result session.proceeds session.reports.outcome_is durable
+    where
+      either : {Quiet Durable Safe : Type 0} (rows : List Row) {kept : Stored}
+          (which : (Quiet × IsFileKept rows before.file kept) ⊎ Durable)
+          → UnlessQuiet files was from rows before.file kept which Safe store f → (Safe → IsSafeFile files f)
+          → IsRecordUntouched files from f ⊎ IsSafeFile files f
+      either _ (inl (_, inl _)) (un, _) _ = inl un
+      either _ (inl (_, inr _)) ((_, safe), _) _ = inr safe
+      either _ (inr _) safe is = inr (is safe)
+
+      by : (result : Result (Unit {0}) Cut)
+          (proceeds : Proceeds settings target now (at link []) before result session.mid after session.notes)
+          → report.outcome ≡ outcome_of result
+          → DurableProceeds files was from _ _ _ _ _ _ _ _ _ proceeds store f
+          → IsRecordUntouched files from f ⊎ IsSafeFile files f
+      by (Ok _) dealt _ all = either dealt.carries.1.mid.rows dealt.carries.1.prepared.durable (all trusted) (λ durably. durably.1)
+      by (Err cut) _ is _ = absurd (let never = sym ended ∙ is in cc)
 
 -- ---- a session
 

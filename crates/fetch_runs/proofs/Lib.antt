@@ -7,10 +7,14 @@ pub mod Losses
 pub mod MboxLeft
 pub mod MboxPromised
 pub mod MboxState
+pub mod Progress
 pub mod Promised
+mod Recorded
 pub mod Safety
 pub mod State
 pub mod Steps
 pub mod Talk
 pub mod Tasks
 pub mod Turns
+mod VisitPromises
+pub mod Visits

@@ -54,9 +54,9 @@ mapped_at f [] n y e = absurd cc
 mapped_at f (x ∷ _) zero y e = (x, refl, same_Some (f x) y e)
 mapped_at f (x ∷ xs) (suc n) y e = mapped_at f xs n y e
 
--- a list that is empty or one element
-pub none_or_one : {A : Type 0} {xs : List A} {x : A} → (xs ≡ []) ⊎ (xs ≡ x ∷ []) → length xs ≤ 1
-none_or_one once = ⊎_elim (λ none. rw none (omega arith)) (λ one. rw one (omega arith)) once
+-- a list that is empty or one element of a kind
+pub none_or_one : {A : Type 0} {P : A → Type 0} {xs : List A} → (xs ≡ []) ⊎ ((x : A) × P x × (xs ≡ x ∷ [])) → length xs ≤ 1
+none_or_one once = ⊎_elim (λ none. rw none (omega arith)) (λ (x, p, one). rw one (omega arith)) once
 
 -- what stands after those before it
 pub at_length : {A : Type 0} (xs : List A) (y : A) (ys : List A) → slice_get (xs ++ y ∷ ys) (length xs) ≡ Some y

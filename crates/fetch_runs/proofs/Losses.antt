@@ -289,9 +289,11 @@ losses_leave_kept disk mail state after left intent kept safe loses may stands =
   gone = all_both state.gone kept.gone safe.gone (λ id is last. (is.0, still id last));
 }
   where
-    same_or_none : {was now : List (List ℕ)} {text : List ℕ} → (was ≡ []) ⊎ (was ≡ text ∷ [])
-        → (now ≡ was) ⊎ (length now < length was) → (now ≡ []) ⊎ (now ≡ text ∷ [])
-    same_or_none {was} {now} {text} once less = grind (arith, once, less, nil_from_length now)
+    same_or_none : {was now : List (List ℕ)} {Comes : List ℕ → Type 0} → (was ≡ []) ⊎ ((text : List ℕ) × Comes text × (was ≡ text ∷ []))
+        → (now ≡ was) ⊎ (length now < length was) → (now ≡ []) ⊎ ((text : List ℕ) × Comes text × (now ≡ text ∷ []))
+    same_or_none {was} {now} (inl none) less = inl (grind (arith, none, less, nil_from_length now))
+    same_or_none (inr (text, comes, one)) (inl same) = inr (text, comes, same ∙ one)
+    same_or_none {was} {now} (inr (text, comes, one)) (inr fewer) = inl (grind (arith, one, fewer, nil_from_length now))
 
     still : (id : List ℕ) → is_durable mail state id ≡ true → is_safe mail (record state { account = after }) id ≡ true
     still = is_safe_after mail state after loses

@@ -28,7 +28,7 @@ use Rattle.fetch_session.specs.{
 }
 use Rattle.fetch_runs.{
   specs.{Below.Below, Steps.mbox_holds, Losses.{TrustsMbox, IsMboxSafe}, Sessions.{MboxMail, Served, entry_intent, settled}},
-  specs.Promises.{Base, Call, Devices, HoldsEntries, IsMaildrop, IsMboxFront, IsOpenFor, ShowsNext, Stands},
+  specs.Promises.{Base, Call, Devices, HoldsEntries, IsMaildrop, IsMboxFront, IsTextOf, IsOpenFor, ShowsNext, Stands},
   proofs.{LeftRecords.{grown_reads, same_reads, merge_reads, IsBegun, end_of, Untouched, NotReady, Anew, Begun, way}, Tasks.rows_after},
   proofs.{Lists.{delivered_unheld, same_held}, Steps.{mbox_honest, retrieved_is}, Talk.{Planned, session_spoke}, Turns.{Course, effect_of}},
   proofs.MboxPromised.{bytes_of, ends_whole, entered, front_after, holds_after, next_is, open_row, opened_after, settled_is},
@@ -229,7 +229,7 @@ module _ (base : Base) (Among : List Message → Type 0) where
 -- ---- what may be left of a file
 
 -- a loss of power may leave what calls see
-may_seen : {F : Type 0} (files : FileGhosts F) (f : F) → seen_on (files.disk f) ≡ (files.stored f).content
+pub may_seen : {F : Type 0} (files : FileGhosts F) (f : F) → seen_on (files.disk f) ≡ (files.stored f).content
     → MayLeave (files.disk f) (files.stored f).content
 may_seen files f shown = subst (λ o. MayLeave (files.disk f) o) shown (may_now _ _ (may_arrive _))
 
@@ -238,7 +238,7 @@ may_seen files f shown = subst (λ o. MayLeave (files.disk f) o) shown (may_now 
 module _ (laws : Below) (D : Type 0) {F : Type 0} (files : FileGhosts F)
     (shown : (f : F) → seen_on (files.disk f) ≡ (files.stored f).content)
     (base : Base) (Among : List Message → Type 0) {W S G : Type 0} (v : Call W S G) (link link' : Link)
-    (valid : IsValid v.settings) (maildrop : IsMaildrop base.text v.maildrop) (only_new : v.settings.read_all ≡ false)
+    (valid : IsValid v.settings) (maildrop : IsMaildrop (IsTextOf base) v.maildrop) (only_new : v.settings.read_all ≡ false)
     (served : (sent got : List ℕ) → link'.sent ≡ link.sent ++ sent → link'.got ≡ link.got ++ got
     → Served v.maildrop sent got v.vanished)
     (from to : Devices F F) (held held' : RecordState) (done done' : List Message)

@@ -14,7 +14,7 @@ use Rattle.fetch_runs.{
   specs.Sessions.{IsBroken, MboxLeaves, MboxStores, entries_of, MboxSessionOverLink},
   specs.{Accounts.message_ids, Below.Below},
   specs.Promises.{IsOf, IsMaildrop, ShowsNext, Call, Base, is_entered, IsOpenFor, Stands, HoldsEntries, IsMboxFront, MboxPromises},
-  specs.Promises.{MboxStarts, AppendsMail},
+  specs.Promises.{MboxStarts, AppendsMail, IsTextOf},
   proofs.{Promised.sends_such, Safety.mbox_served_session},
   proofs.Core.{BeginsWith, next_in, added, added_begins, prefix_after, all_added, parts_apart, IsNumbered, num_item, Fetch, all_wanted, qs},
   proofs.Core.{distinct_wanted, fetches_wanted, wanted_is, taken_is, texts_are, wanted_ids, none_recorded, wants, wants_placed, has_listed},
@@ -60,7 +60,7 @@ pub settled_is : Below → {base : Base} {bytes : List ℕ} {account : MboxMail}
 settled_is laws {bytes = bytes} listing o =
     ⊎_map (λ counts. (rw (o.intent, o.file, counts.0), rw (o.intent, o.file) (counts.1 ∙ ap (λ l. bytes ++ l) counts.2)))
     (λ cut. (rw (o.intent, o.file, cut.0), rw (o.intent, o.file) cut.1))
-    (laws.leftovers bytes o.next.text o.part (listed_size listing o.next.uid) o.is.whole o.left)
+    (laws.leftovers bytes o.next.text o.part (listed_size listing o.next.uid) o.is.text.1 o.left)
 
 -- the message and the text at one place
 pub at_place : (drop' : List Message) (qs : List (ℕ × Message)) (texts : List (List ℕ)) (n : ℕ) {message : ℕ
@@ -107,10 +107,10 @@ module _ (base : Base) where
 
   -- a maildrop, and none of it was recorded before the first session
   abbrev AreEntered : List Message → Type 0
-  AreEntered done = IsMaildrop base.text done × AllByRecursion (λ (m : Message). base.had m.uid ≡ false) done
+  AreEntered done = IsMaildrop (IsTextOf base) done × AllByRecursion (λ (m : Message). base.had m.uid ≡ false) done
 
   -- more messages that aren't recorded
-  grown : (done more : List Message) → AreEntered done → AllByRecursion (IsOf base.text) more
+  grown : (done more : List Message) → AreEntered done → AllByRecursion (IsOf (IsTextOf base)) more
       → Distinct (message_ids more) → AllByRecursion (λ (m : Message). is_entered base done m.uid ≡ false) more → AreEntered (done ++ more)
   grown _ _ are each distinct fresh = (
     record {
@@ -261,7 +261,7 @@ module _ (base : Base) where
 
     -- ---- one session that stored something
 
-    module _ {W S F : Type 0} (v : Call W S F) (now : MboxMail) (did : Effect) (is : IsMaildrop base.text v.maildrop)
+    module _ {W S F : Type 0} (v : Call W S F) (now : MboxMail) (did : Effect) (is : IsMaildrop (IsTextOf base) v.maildrop)
         (only_new : v.settings.read_all ≡ false) (s : MboxStores v.settings before did now v.report)
         (honest : IsHonest (mbox_wanted v.settings before did) v.maildrop did) where
       abbrev pub rows : List Row
@@ -333,7 +333,7 @@ module _ (base : Base) where
           let taken = broken_taken b in
           record {
             next = next;
-            is = (all_back _ (new s.stored) _ (rw taken at (all_new (IsOf base.text) (suc s.stored) is.each))).0;
+            is = (all_back _ (new s.stored) _ (rw taken at (all_new (IsOf (IsTextOf base)) (suc s.stored) is.each))).0;
             unrecorded = recorded_after next.uid ∙ in_more was (new s.stored) next.uid ∙ rw (
               (all_back _ (new s.stored) _ (rw taken at (fresh (suc s.stored)))).0,
               (parts_apart (new s.stored) (next ∷ []) (rw taken at (distinct_wanted fetch (suc s.stored)))).1 next (members (next ∷ [])).0,
@@ -366,7 +366,7 @@ module _ (base : Base) where
 
       pub holds_after : HoldsEntries base done_now now
       holds_after = let more = grown was (new s.stored) (origin.1.are, origin.1.new)
-          (all_new (IsOf base.text) s.stored is.each) (distinct_wanted fetch s.stored) (fresh s.stored) in record {
+          (all_new (IsOf (IsTextOf base)) s.stored is.each) (distinct_wanted fetch s.stored) (fresh s.stored) in record {
             are = more.0;
             new = more.1;
             recorded = recorded_after;
@@ -501,7 +501,7 @@ module _ (base : Base) where
           → ShowsNext v.settings v.maildrop (front.first ++ done) front.rest → IsMboxFront base holds all)
           × ((o : IsOpenFor base (bytes_of now) after) → holds.stands ≡ inr o → IsPart after o.next o.part)
 
-      pub appends : {got : List ℕ} (effect : Effect) → IsMaildrop base.text v.maildrop → v.settings.read_all ≡ false
+      pub appends : {got : List ℕ} (effect : Effect) → IsMaildrop (IsTextOf base) v.maildrop → v.settings.read_all ≡ false
           → Served v.maildrop sent got v.vanished
           → MboxSessionOverLink v.settings before sent got v.report effect after → AppendsMail base kept v sent after
       appends effect maildrop only_new served session =

@@ -2,27 +2,32 @@
 -- invariant, and so do others.
 use Rattle.std.{
   proofs.Common.{◌≡◌, ◌⊎◌, inl, inr, ◌-◌, ℕ, List, [], ◌∷◌, ◌++◌, Bool, true, false, length, map, refl, sym, subst, ◌∙◌, ap, ap₂, arith},
-  proofs.Common.{not, cond, ◌&&◌, ◌||◌, take, drop},
+  proofs.Common.{not, cond, ◌&&◌, ◌||◌, ◌≤◌, take, drop},
   proofs.lemmas.Bool.{cases_Bool, both_ways, or_left, or_right, or_cases, and_parts, false_from_ne_true, not-true},
-  proofs.lemmas.List.{append-nil, map-append, Elements.filter-append},
+  proofs.lemmas.List.{append-nil, map-append, take_all, Elements.filter-append},
   proofs.Math.Logic.{⊎_elim, ⊎_map},
   specs.{Prelude.{bytes_eq, ◌↔◌}, List.{AllByRecursion, count_by, filter}},
 }
 use Rattle.mail_terms.specs.{UniqueId.{is_legal_id, has_id}, Listing.{Item, has_item}, MaildirName.base}
 use Rattle.pop3_wire.specs.{World.Message, declared.command.Command.{Command, TheVariants.Dele}}
-use Rattle.fetch_record.specs.Record.{is_delivered, Row}
-use Rattle.mail_store.specs.{Maildir.{File, file as file_of}, FileName.{names_id, name_of, stem, is_held, is_odd, stem_of, IsAccountText}}
+use Rattle.fetch_record.specs.Record.{has_row, is_delivered, Row}
+use Rattle.mail_store.specs.{
+  Held.flags_of,
+  Maildir.{File, file as file_of},
+  FileName.{names_id, name_of, stem, is_held, is_odd, stem_of, IsAccountText},
+}
 use Rattle.fetch_runs.{
   specs.{Accounts.{message_ids, item_of, listing_of, texts_of, AccountMail, copies, files, has_named, without_flags}, Below.Below},
   specs.Sessions.{Effect, Leaves, StoresTexts, IsHonest, wanted_at, merged_rows, ids_wanted, SendsOnly, IsBegun, Served, SessionOverLink},
   specs.Sessions.is_retr,
+  specs.Promises.{ComesFor},
   specs.Promises.{Mail, IsOf, IsMaildrop, State, is_safe, IsSafe, state_with, DeletesOneOf, ShowsNext, IsFront, Promises, Invariant, Call},
   specs.Promises.IsBetween,
   proofs.Core.{added, added_begins, prefix_after, Fetch, all_wanted, distinct_wanted, texts_are, taken_is, wanted_ids, none_recorded},
-  proofs.Core.{fetches_wanted, IsLegal, wants, stored_files, message_file, has_listed, fetched, order},
+  proofs.Core.{fetches_wanted, length_is, IsLegal, wants, stored_files, message_file, has_listed, fetched, order},
   proofs.Lists.{ids_both, ids_filtered, any_filter, same_tests, is_some, Distinct, distinct_is, each_text, all_map, all_filter, all_take},
   proofs.Lists.{all_append, all_at, all_both, all_ids_at, all_passing, members, no_texts, has_texts, texts_filtered, taken_more, mapped_at},
-  proofs.Lists.{delivered_marked, delivered_merged, marks_stay},
+  proofs.Lists.{all_mapped, delivered_all, delivered_marked, delivered_merged, marks_stay},
   proofs.Safety.served_session,
 }
 use Rattle.fetch_session.specs.declared.report.Outcome.TheVariants.{Ended}
@@ -80,11 +85,12 @@ unheld_part : {X : Type 0} (held : Bool) (xs : List X) → (held || is_some (con
 unheld_part true _ = refl
 unheld_part false _ = refl
 
--- distinct messages of this mail have the texts of their ids
-pub one_text : (text_of : List ℕ → List ℕ) (ms : List Message) → Distinct (message_ids ms)
-    → AllByRecursion (IsOf text_of) ms → (id : List ℕ) → has_id (message_ids ms) id ≡ true → texts_of ms id ≡ text_of id ∷ []
-one_text text_of ms d each _ = all_at (λ x. texts_of ms x ≡ text_of x ∷ []) ms (all_both ms (each_text ms d) each
-    (λ m e h. e ∙ ap (λ t. t ∷ []) h.text))
+-- of distinct messages each has one text, which comes for its id
+pub one_text : (Comes : List ℕ → List ℕ → Type 0) (ms : List Message) → Distinct (message_ids ms)
+    → AllByRecursion (IsOf Comes) ms → (id : List ℕ) → has_id (message_ids ms) id ≡ true
+    → (text : List ℕ) × Comes id text × (texts_of ms id ≡ text ∷ [])
+one_text Comes ms d each _ = all_at (λ x. (text : List ℕ) × Comes x text × (texts_of ms x ≡ text ∷ [])) ms
+    (all_both ms (each_text ms d) each (λ m e h. (m.text, h.text, e)))
 
 filter_within : (p q : Message → Bool) (ms : List Message)
     → AllByRecursion (λ (m : Message). p m ≡ true → q m ≡ true) ms → filter p (filter q ms) ≡ filter p ms
@@ -126,7 +132,7 @@ sends_such P drop effect listed all sends = record {
 pub record IsSession {W S F : Type 0} (mail : Mail) (before : AccountMail) (call : Call W S F) (sent : List ℕ)
     (after : AccountMail) : Type 0 where
   pub got : List ℕ
-  pub maildrop : IsMaildrop mail.text call.maildrop
+  pub maildrop : IsMaildrop (ComesFor mail) call.maildrop
   pub served : Served call.maildrop sent got call.vanished
   pub effect : Effect
   pub odd : after.maildir.odd ≡ before.maildir.odd
@@ -134,7 +140,7 @@ pub record IsSession {W S F : Type 0} (mail : Mail) (before : AccountMail) (call
 
 module _ {W S F : Type 0} (laws : Below) {mail : Mail} (account_is : IsAccountText mail.account) {state : State}
     (o : Call W S F) (now : AccountMail) (kept : Invariant mail state) (e : Effect)
-    (is : IsMaildrop mail.text o.maildrop) {commands : List Command} {part : List ℕ}
+    (is : IsMaildrop (ComesFor mail) o.maildrop) {commands : List Command} {part : List ℕ}
     (s : StoresTexts o.settings mail.account state.account e now o.report commands part)
     (honest : IsHonest (wanted_at o.settings mail.account state.account e) o.maildrop e)
     (same_odd : now.maildir.odd ≡ state.account.maildir.odd) where
@@ -176,7 +182,8 @@ module _ {W S F : Type 0} (laws : Below) {mail : Mail} (account_is : IsAccountTe
   legal_got : (id : List ℕ) → has_id (message_ids got) id ≡ true → is_legal_id id ≡ true
   legal_got _ = all_at (λ x. is_legal_id x ≡ true) got (all_got IsLegal legal_drop)
 
-  texts_got : (id : List ℕ) → has_id (message_ids got) id ≡ true → texts_of got id ≡ mail.text id ∷ []
+  texts_got : (id : List ℕ) → has_id (message_ids got) id ≡ true
+      → (text : List ℕ) × ComesFor mail id text × (texts_of got id ≡ text ∷ [])
   texts_got = one_text _ _ (distinct_wanted fetch s.stored) (all_got _ is.each)
 
   files_are : without_flags (files now) ≡ without_flags (files state.account) ++ map (message_file mail.account) came
@@ -195,12 +202,14 @@ module _ {W S F : Type 0} (laws : Below) {mail : Mail} (account_is : IsAccountTe
       ∙ unheld_part (held id) (texts_of got id) ∙ ap (λ b. held id || b) (sym (has_texts got id))
 
   holds_after : (id : List ℕ) → is_legal_id id ≡ true
-      → (copies (files now) (stem_of mail.account id) ≡ []) ⊎ (copies (files now) (stem_of mail.account id) ≡ mail.text id ∷ [])
+      → (copies (files now) (stem_of mail.account id) ≡ [])
+      ⊎ ((text : List ℕ) × ComesFor mail id text × (copies (files now) (stem_of mail.account id) ≡ text ∷ []))
   holds_after id l = elim (kept.holds id l) [
     | inl none ↦
         let all = copies_are id l ∙ rw (none, held_copies) (rw none refl) in
-        ⊎_elim (λ there. inr (all ∙ texts_got id there)) (λ no. inl (all ∙ no_texts _ id no)) (cases_Bool (has_id (message_ids got) id))
-    | inr text ↦ inr (copies_are id l ∙ rw (text, held_copies) (rw text refl))
+        ⊎_elim (λ there. let (text, comes, is) = texts_got id there in inr (text, comes, all ∙ is))
+        (λ no. inl (all ∙ no_texts _ id no)) (cases_Bool (has_id (message_ids got) id))
+    | inr (text, comes, is) ↦ inr (text, comes, copies_are id l ∙ rw (is, held_copies) (rw is refl))
   ]
 
   got_safe : (id : List ℕ) → has_id (message_ids got) id ≡ true → IsSafe mail after id
@@ -243,6 +252,33 @@ module _ {W S F : Type 0} (laws : Below) {mail : Mail} (account_is : IsAccountTe
         (ids_wanted (take s.recorded (wanted_at o.settings mail.account state.account e))) id (known_parts id ∙ or_left _ _ recorded))
   ]
 
+  -- after an uncut session what was known, and what came, is recorded
+  all_recorded : e.ended ≡ true → o.report.outcome ≡ Ended → (id : List ℕ)
+      → (is_delivered rows id || has_id (message_ids got) id) ≡ true → is_delivered now.rows id ≡ true
+  all_recorded ended uncut id is =
+      let all = s.ended ended in
+      let enough : length ws ≤ s.stored = grind (arith, all, s.kept, length_is fetch) in
+      let marked : length ws ≤ s.recorded = omega (arith, all, saved, length_is fetch) in
+      let whole = rw (take_all s.stored ws enough) at is in
+      elim s.rows [
+        | inl old ↦ absurd (both_ways e.ended old.3 ended)
+        | inr marks ↦ rw (marks, wanted_ids fetch s.recorded, take_all s.recorded ws marked)
+            (delivered_all laws rows (message_ids ws) id have_rows ∙ whole)
+      ]
+    where
+      saved : s.recorded ≡ o.report.retrieved
+      saved = elim s.marks [
+        | inl same ↦ same
+        | inr (less, unsaved) ↦ ⊎_elim (λ cut. absurd (let never = sym uncut ∙ cut in cc))
+            (λ cut. absurd (let never = sym uncut ∙ cut in cc)) unsaved
+      ]
+
+      have_rows : AllByRecursion (λ uid. has_row rows uid ≡ true) (message_ids ws)
+      have_rows = all_mapped _ (λ (m : Message). m.uid) ws (all_wanted fetch (λ m. has_row rows m.uid ≡ true)
+          (all_map _ (members o.maildrop) (λ m there.
+          laws.listed state.account.rows e.listing (flags_of mail.account state.account.maildir e.listing) e.now m.uid
+          ∙ or_right _ _ (has_listed _ honest.listing _ ∙ there))))
+
   -- what isn't done isn't held
   new_unheld : (done : List Message) → ((id : List ℕ) → is_legal_id id ≡ true → has_id (message_ids done) id ≡ is_safe mail state id)
       → AllByRecursion (λ (m : Message). not (has_id (message_ids done) m.uid) ≡ true → not (held m.uid) ≡ true) got
@@ -273,10 +309,13 @@ module _ {W S F : Type 0} (laws : Below) {mail : Mail} (account_is : IsAccountTe
   stored_kept ended sends retrieves vanished = (
     record {
       wanted = rw same_odd (λ uncut. let all = s.ended (ended.1 uncut) in
-          fetches_wanted fetch known known_listed s.stored (grind (arith, all, s.kept)) all (λ m. IsSafe mail after m.uid)
-          (λ m. got_safe m.uid) (λ m old. still_safe mail state now m.uid (known_safe m.uid old)));
+          fetches_wanted fetch known known_listed s.stored (grind (arith, all, s.kept)) all
+          (λ m. IsSafe mail after m.uid × (is_delivered now.rows m.uid ≡ true))
+          (λ m came. (got_safe m.uid came, all_recorded (ended.1 uncut) uncut m.uid (or_right _ _ came)))
+          (λ m old. (still_safe mail state now m.uid (known_safe m.uid old), all_recorded (ended.1 uncut) uncut m.uid (or_left _ _ old))));
       deletes = sends_such (IsSafe mail after) o.maildrop e (inl honest.listing) begun_safe sends;
       retrieved = λ uncut. retrieves (ended.1 uncut);
+      vanished = all_map _ vanished (λ _ b. all_ids_at (λ x. is_delivered now.rows x ≡ true) e.begun s.begun b);
       came = came;
       added = files_are ∙ ap (λ fs. without_flags (files state.account) ++ fs) (named_messages laws mail.account account_is came);
       new = all_both _ shown_came (all_filter _ (λ (m : Message). not (held m.uid)) got unrecorded_got)
@@ -318,6 +357,7 @@ left_kept {mail = mail} {state = state} o now e kept left ended sends vanished =
     wanted = λ uncut. absurd (both_ways e.ended left.ended (ended.1 uncut));
     deletes = sends_such _ _ e (inr left.begun) (rw left.begun tt) sends;
     retrieved = λ uncut. absurd (both_ways e.ended left.ended (ended.1 uncut));
+    vanished = all_map _ vanished (λ _ b. absurd (both_ways false refl (rw left.begun at b)));
     came = [];
     added = ap without_flags left.same ∙ sym (append-nil (without_flags (files state.account)));
     new = tt;

@@ -2,8 +2,8 @@
 -- these. Nobody has to know what a session does.
 use Rattle.std.specs.{Prelude.{◌≡◌, ℕ, true, List, [], ◌∷◌, ◌++◌, Option, false}, List.AllByRecursion}
 use Rattle.pop3_wire.specs.{World.Message, declared.wire.Wire.Ghosts as WireGhosts}
-use Rattle.mail_terms.specs.UniqueId.{is_legal_id}
-use Rattle.rc_file.specs.{Settings.IsValid, declared.settings.Settings.Settings}
+use Rattle.mail_terms.specs.UniqueId.{is_legal_id, has_id}
+use Rattle.rc_file.specs.declared.settings.Settings.{Settings}
 use Rattle.fetch_record.specs.{Record.Intent, RecordMeaning.FileStandsFor}
 use Rattle.mail_store.specs.{
   Durable.MayLeave,
@@ -13,26 +13,21 @@ use Rattle.mail_store.specs.{
   declared.{file.flat_file.FlatFile.Ghosts as FileGhosts, maildir.disk.MaildirDisk.Ghosts as DiskGhosts},
 }
 use Rattle.fetch_session.specs.{
-  Account.{Holding, IsSameAccount, digits_of},
-  Durable.RunsSession,
-  declared.{account.Store.{Store, TheVariants.{Maildir as InMaildir, Mboxrd as InMbox}}, report.Report.Report},
+  Account.{Holding, digits_of},
+  declared.account.Store.{Store, TheVariants.{Maildir as InMaildir, Mboxrd as InMbox}},
   Target.mail_in,
+  Visits.WasMade,
 }
 use Rattle.fetch_runs.specs.{
-  Accounts.{AccountMail, copies, files},
-  Sessions.{Served, MboxMail},
-  Promises.{Call, Devices, IsBetween, IsMaildrop, Invariant, Mail, Promises, ShowsNext, State, is_safe, state_with},
-  Promises.{AppendsMail, Base, HoldsEntries},
-  Losses.{TrustsMbox, IsCrashSafe, IsDurableFront, IsFileLeft, IsMboxSafe, KeepsDurable, KeepsFronts, TrustsRecord},
+  Accounts.{AccountMail, copies, files, message_ids},
+  Sessions.{Served, MboxMail, entries_of},
+  Promises.{Call, ComesFor, Devices, IsBetween, IsMaildrop, Invariant, Mail, Promises, ShowsNext, State, is_safe},
+  Promises.{AppendsMail, Base, HoldsEntries, IsTextOf, state_with},
+  Losses.{TrustsMbox, IsCrashSafe, IsDurableFront, IsFileLeft, IsMboxSafe, KeepsDurable, KeepsFronts, KeepsRecorded},
+  Losses.TrustsRecord,
 }
 
 -- ---- one call
-
--- what the contract of `session` says of each call: `promised_session` is such a call, and its contract says just this
-abbrev pub WasMade : {W D F : Type 0} → WireGhosts W → DiskGhosts D → FileGhosts F → ℕ → Holding D F → W → Report
-    → Holding D F → W → Type 0
-WasMade link disk file now old wire report new wire' =
-    IsValid old.settings × IsSameAccount old new × RunsSession link disk file now old wire report new wire'
 
 -- the account with these settings over these devices, whose store is of this kind
 abbrev pub account_over : {D F S : Type 0} → (S → Store D F) → Settings → Devices S F → Holding D F
@@ -40,14 +35,14 @@ account_over In settings devices = record { settings = settings; store = In devi
 
 -- a call was made with devices that do what their traits say, and all that the link gained came from an honest server
 pub record IsCall {W D F S : Type 0} (link : WireGhosts W) (disk : DiskGhosts D) (file : FileGhosts F)
-    (In : S → Store D F) (is_sound : S → Type 0) (text_of : List ℕ → List ℕ) (devices : Devices S F) (call : Call W S F)
-    : Type 0 where
+    (In : S → Store D F) (is_sound : S → Type 0) (Comes : List ℕ → List ℕ → Type 0) (devices : Devices S F)
+    (call : Call W S F) : Type 0 where
   pub made : WasMade link disk file call.now (account_over In call.settings devices) call.wire call.report
       (account_over In call.settings call.after) call.wire'
   pub link_sound : link.sound call.wire'
   pub store_sound : is_sound call.after.store
   pub file_sound : file.sound call.after.file
-  pub maildrop : IsMaildrop text_of call.maildrop
+  pub maildrop : IsMaildrop Comes call.maildrop
   pub served : (sent got : List ℕ) → (link.history call.wire').sent ≡ (link.history call.wire).sent ++ sent
       → (link.history call.wire').got ≡ (link.history call.wire).got ++ got
       → Served call.maildrop sent got call.vanished
@@ -66,7 +61,7 @@ abbrev pub with_left : Mail → State → Maildir → State
 with_left mail state left = state_with mail state [] (record state.account { maildir = left })
 
 -- readers were seen to take files away during the call, and none was besides; over what they left it was a session that
--- kept its promises. If a loss of power could do no harm before it, none can after it
+-- kept its promises. A loss of power can do no more harm after it than before, and take no more of what is recorded
 pub record IsPromised {W D F : Type 0} (link : WireGhosts W) (disk : DiskGhosts D) (file : FileGhosts F) (mail : Mail)
     (state : State) (devices : Devices D F) (call : Call W D F) : Type 0 where
   pub left : Maildir
@@ -79,6 +74,8 @@ pub record IsPromised {W D F : Type 0} (link : WireGhosts W) (disk : DiskGhosts 
   pub promises : Promises mail (with_left mail state left) call sent after
   pub safe : TrustsRecord file devices.file call.after.file → IsCrashSafe (file.disk devices.file) mail state
       → IsCrashSafe (file.disk call.after.file) mail (state_with mail (with_left mail state left) call.vanished after)
+  pub keeps : TrustsRecord file devices.file call.after.file → KeepsRecorded (file.disk devices.file)
+      (file.disk call.after.file) state.account.rows after.rows call.report.outcome
   pub in_order : (all : List Message) → AllByRecursion (λ (m : Message). is_legal_id m.uid ≡ true) all
       → (front : IsDurableFront mail state all) → ShowsNext call.settings call.maildrop front.is.done front.is.rest
       → after.maildir.odd ≡ []
@@ -98,10 +95,11 @@ pub record IsLeftByLoss {D F : Type 0} (disk : DiskGhosts D) (file : FileGhosts 
 
 -- ---- any list of calls
 
--- a call; or others, or a loss of power, left these devices, which show this account
+-- a call; or others left these devices, which show this account; or a loss of power did
 pub data Happening (Call Devices Account : Type 0) : Type 0 where
   Called : Call → Happening Call Devices Account
   Left : Devices → Account → Happening Call Devices Account
+  Lost : Devices → Account → Happening Call Devices Account
 
 -- the devices show a state with the invariant; if the next of these happens, a call keeps its promises, and they do so
 -- after it, and after others or a loss of power. What such a loss takes, if it can do no harm, isn't taken away
@@ -110,7 +108,7 @@ abbrev pub ArePromised : {W D F : Type 0} → WireGhosts W → DiskGhosts D → 
 ArePromised link disk file mail state devices [] = Shows disk file devices state.account × Invariant mail state
 ArePromised link disk file mail state devices (Called call ∷ later) = Shows disk file devices state.account
     × Invariant mail state × (digits_of call.settings ≡ mail.account → IsCall link disk file InMaildir disk.sound
-    mail.text devices call → (is : IsPromised link disk file mail state devices call)
+    (ComesFor mail) devices call → (is : IsPromised link disk file mail state devices call)
     × ArePromised link disk file mail (state_with mail (with_left mail state is.left) call.vanished is.after)
     call.after later)
 ArePromised link disk file mail state devices (Left left account ∷ later) = Shows disk file devices state.account
@@ -119,7 +117,9 @@ ArePromised link disk file mail state devices (Left left account ∷ later) = Sh
     (KeepsDurable file mail.account state.account devices.file left.file account
     → (IsCrashSafe (file.disk devices.file) mail state → IsCrashSafe (file.disk left.file) mail next)
     × (HoldsNoMore mail state account → KeepsFronts mail state next)) × ArePromised link disk file mail next left later)
-    × (IsCrashSafe (file.disk devices.file) mail state → IsLeftByLoss disk file devices left account
+ArePromised link disk file mail state devices (Lost left account ∷ later) = Shows disk file devices state.account
+    × Invariant mail state × (IsCrashSafe (file.disk devices.file) mail state
+    → IsLeftByLoss disk file devices left account
     → let next : State = record state { account = account } in IsCrashSafe (file.disk left.file) mail next
     × KeepsFronts mail state next × ArePromised link disk file mail next left later)
 
@@ -143,28 +143,49 @@ pub record ShowsMbox {F : Type 0} (file : FileGhosts F) (devices : Devices F F) 
   pub record_is : FileStandsFor (file.stored devices.file).content account.rows account.intent
   pub bytes : account.file ≡ mail_in (file.stored devices.store).content
 
+-- a loss of power left this account, whose record can be read, and new devices over it, of which all is durable
+pub record IsMboxLeftByLoss {F : Type 0} (file : FileGhosts F) (from left : Devices F F) (account : MboxMail)
+    : Type 0 where
+  pub mbox_is : IsFileLeft file from.store left.store
+  pub record_is : IsFileLeft file from.file left.file
+  pub shows : ShowsMbox file left account
+
+-- after what it began with the file has the entries of these messages, and then perhaps a part of one more
+abbrev pub BeginsWithEntries : Base → List Message → List ℕ → Type 0
+BeginsWithEntries base done bytes = (part : List ℕ) × (bytes ≡ (base.start ++ entries_of done) ++ part)
+
+-- the file has the entries of the same messages, each once
+pub record KeepsEntries (base : Base) (done : List Message) (bytes : List ℕ) : Type 0 where
+  pub kept : List Message
+  pub are : IsMaildrop (IsTextOf base) kept
+  pub same : (id : List ℕ) → has_id (message_ids kept) id ≡ has_id (message_ids done) id
+  pub begins : BeginsWithEntries base kept bytes
+
 -- the devices show an account whose file holds these entries; if the next of these happens, a call that reads only what
--- is new appends entries, and they do so after it. What others left has the entries of some messages after some bytes,
--- as each file has without an open intent (`mbox_starts`), and perhaps a part of one more; and so has what a loss of
--- power left, if whatever it might leave has, which calls keep
+-- is new appends entries, and they do so after it, and after others, who leave entries after some bytes, as each file
+-- has without an open intent (`mbox_starts`); and a loss of power, if whatever it might leave holds entries, keeps all
 abbrev pub AreMboxPromised : {W D F : Type 0} → WireGhosts W → DiskGhosts D → FileGhosts F → Base → List Message
     → MboxMail → Devices F F → List (Happening (Call W F F) (Devices F F) MboxMail) → Type 0
 AreMboxPromised link disk file base done account devices [] =
     ShowsMbox file devices account × HoldsEntries base done account
 AreMboxPromised link disk file base done account devices (Called call ∷ later) = ShowsMbox file devices account
     × (holds : HoldsEntries base done account) × (call.settings.read_all ≡ false
-    → IsCall link disk file InMbox file.sound base.text devices call → (sent : List ℕ) × (after : MboxMail)
+    → IsCall link disk file InMbox file.sound (IsTextOf base) devices call → (sent : List ℕ) × (after : MboxMail)
     × ((link.history call.wire').sent ≡ (link.history call.wire).sent ++ sent) × ShowsMbox file call.after after
     × (appends : AppendsMail base holds call sent after)
     × (TrustsMbox file devices call.after → IsMboxSafe (HoldsEntries base) file devices
     → IsMboxSafe (HoldsEntries base) file call.after)
+    × (TrustsMbox file devices call.after → KeepsRecorded (file.disk devices.file) (file.disk call.after.file)
+    account.rows after.rows call.report.outcome)
     × AreMboxPromised link disk file base (done ++ appends.more) after call.after later)
 AreMboxPromised link disk file base done account devices (Left left now ∷ later) = ShowsMbox file devices account
-    × HoldsEntries base done account × (ShowsMbox file left now → ((from : Base) (first : List Message)
+    × HoldsEntries base done account × (ShowsMbox file left now → (from : Base) (first : List Message)
     → HoldsEntries from first now → AreMboxPromised link disk file from first now left later)
-    × (IsMboxSafe (HoldsEntries base) file devices → IsFileLeft file devices.store left.store
-    → IsFileLeft file devices.file left.file → IsMboxSafe (HoldsEntries base) file left
-    × ((first : List Message) × AreMboxPromised link disk file base first now left later)))
+AreMboxPromised link disk file base done account devices (Lost left now ∷ later) = ShowsMbox file devices account
+    × HoldsEntries base done account × (IsMboxSafe (HoldsEntries base) file devices
+    → IsMboxLeftByLoss file devices left now → KeepsEntries base done now.file
+    × IsMboxSafe (HoldsEntries base) file left
+    × ((first : List Message) × AreMboxPromised link disk file base first now left later))
 
 -- the law: so it is of any list of calls and of what others and losses of power leave
 abbrev pub MboxCallsKeepPromises : {W D F : Type 0} → WireGhosts W → DiskGhosts D → FileGhosts F → Type 0

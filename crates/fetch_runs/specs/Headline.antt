@@ -20,10 +20,11 @@ use Rattle.fetch_session.specs.{
 use Rattle.fetch_runs.specs.{
   Accounts.{AccountMail, copies, files, message_ids, selected, texts_of, without},
   Sessions.MboxMail,
-  Promises.{Call, Devices, IsBetween, IsFront, IsMaildrop, IsSafe, Invariant, Mail, State, is_safe, state_with, Base},
-  Promises.{AppendsMail, HoldsEntries, IsMboxFront, base_from, is_entered},
-  Calls.{Called, Happening, HoldsNoMore, IsCall, IsLeftByLoss, IsPromised, Left, Shows, with_left, ShowsMbox},
-  Losses.{TrustsMbox, IsCrashSafe, IsDurableFront, IsFileLeft, IsMboxSafe},
+  Promises.{Call, ComesFor, Devices, IsBetween, IsFront, IsMaildrop, IsSafe, Invariant, Mail, State, is_safe},
+  Promises.{AppendsMail, Base, HoldsEntries, IsMboxFront, IsTextOf, OneComes, base_from, is_entered, state_with},
+  Calls.{BeginsWithEntries, Called, Happening, HoldsNoMore, IsCall, IsLeftByLoss, IsMboxLeftByLoss, IsPromised, Left},
+  Calls.{Lost, Shows, ShowsMbox, with_left},
+  Losses.{TrustsMbox, IsCrashSafe, IsDurableFront, IsMboxSafe},
 }
 
 -- a session's limit on sizes is this one, and its maildrop is a beginning of all mail, without messages of such ids
@@ -51,10 +52,11 @@ selected_of world = selected world.max_size world.all
 
 -- ---- with a Maildir
 
--- the account's text is one; unique-ids are legal and distinct, and texts are whole, and those that their ids name
+-- the account's text is one; unique-ids are legal and distinct, and one text comes for each
 pub record IsSound (world : World Mail) : Type 0 where
   pub account : IsAccountText world.start.account
-  pub all : IsMaildrop world.start.text world.all
+  pub all : IsMaildrop (ComesFor world.start) world.all
+  pub one : OneComes world.start
 
 -- each of the first j of the selected messages is in one file with its text, or was taken away and is in none; and no
 -- other message is held
@@ -66,8 +68,6 @@ pub record HoldsAPrefix (world : World Mail) (state : State) : Type 0 where
       ⊎ ((state.taken id ≡ true) × (copies (files state.account) (stem_of world.start.account id) ≡ []))
   pub ids : (id : List ℕ) → is_legal_id id ≡ true → is_held world.start.account state.account.maildir id ≡ true
       → has_id (message_ids (take j (selected_of world))) id ≡ true
-  pub once : (id : List ℕ) → is_legal_id id ≡ true
-      → length (copies (files state.account) (stem_of world.start.account id)) ≤ 1
 
 -- a law: exactly the first of any messages, none of them, are held or were taken away, if nothing is
 abbrev pub EmptyFrontsBegin : Type 0
@@ -84,7 +84,7 @@ NoneTaken = (mail : Mail) (state : State) (after : AccountMail) → ((id : List 
 -- a law: a call that reads only what is new doesn't store a message again that is recorded as delivered and isn't held
 abbrev pub TakenStaysAway : {W D F : Type 0} → WireGhosts W → DiskGhosts D → FileGhosts F → Type 0
 TakenStaysAway {W} {D} {F} link disk file = (mail : Mail) (state : State) (devices : Devices D F) (call : Call W D F)
-    (id : List ℕ) → IsAccountText mail.account → IsMaildrop mail.text call.maildrop
+    (id : List ℕ) → IsAccountText mail.account → IsMaildrop (ComesFor mail) call.maildrop
     → (is : IsPromised link disk file mail state devices call) → call.settings.read_all ≡ false
     → is_legal_id id ≡ true → is_delivered state.account.rows id ≡ true → is_held mail.account is.left id ≡ false
     → (is_delivered is.after.rows id ≡ true) × (is_held mail.account is.after.maildir id ≡ false)
@@ -103,7 +103,7 @@ HoldPrefixes link disk file world state devices (Called call ∷ later) = Shows 
     → let next = world_without withdrawn world in
     IsInOrder next.max_size next.all (IsSafe world.start state) call.settings call.maildrop
     → digits_of call.settings ≡ world.start.account
-    → IsCall link disk file InMaildir disk.sound world.start.text devices call
+    → IsCall link disk file InMaildir disk.sound (ComesFor world.start) devices call
     → (disk.maildir call.after.store).odd ≡ [] → (is : IsPromised link disk file world.start state devices call)
     × let new = state_with world.start (with_left world.start state is.left) call.vanished is.after in
     (IsDurableFront world.start state (selected_of world) → IsDurableFront world.start new (selected_of next))
@@ -112,7 +112,8 @@ HoldPrefixes link disk file world state devices (Left left account ∷ later) = 
     × HoldsAPrefix world state × (Shows disk file left account → IsBetween world.start state.account account
     → HoldsNoMore world.start state account
     → HoldPrefixes link disk file world (state_with world.start state [] account) left later)
-    × (IsCrashSafe (file.disk devices.file) world.start state
+HoldPrefixes link disk file world state devices (Lost left account ∷ later) = Shows disk file devices state.account
+    × HoldsAPrefix world state × (IsCrashSafe (file.disk devices.file) world.start state
     → IsDurableFront world.start state (selected_of world) → IsLeftByLoss disk file devices left account
     → HoldPrefixes link disk file world (record state { account = account }) left later)
 
@@ -157,7 +158,7 @@ EntriesMeanTexts = (base : Base) (done : List Message) (account : MboxMail) (fir
 -- call shows a beginning of all mail but for some that are entered, it appends entries and keeps its promises, and a
 -- prefix is held after it; and so on. What others left holds a prefix after some bytes, as each account in order does
 -- without an open intent (`mbox_fronts_begin`); and so does what a loss of power left, if whatever it might leave
--- does, and begins nothing that is withdrawn, which calls keep
+-- does, and begins nothing that is withdrawn, which calls keep: it keeps all entries, in their order
 abbrev pub HoldMboxPrefixes : {W D F : Type 0} → WireGhosts W → DiskGhosts D → FileGhosts F → World Base → List Message
     → MboxMail → Devices F F → List (Happening (Call W F F) (Devices F F) MboxMail) → Type 0
 HoldMboxPrefixes link disk file world done account devices [] =
@@ -166,23 +167,25 @@ HoldMboxPrefixes link disk file world done account devices (Called call ∷ late
     × (is : HoldsAMboxPrefix world done account) × ((withdrawn : List (List ℕ))
     → AllByRecursion (IsUnbegun account) withdrawn → let next = world_without withdrawn world in
     IsInOrder next.max_size next.all (λ id. is_entered world.start done id ≡ true) call.settings call.maildrop
-    → call.settings.read_all ≡ false → IsCall link disk file InMbox file.sound world.start.text devices call
+    → call.settings.read_all ≡ false → IsCall link disk file InMbox file.sound (IsTextOf world.start) devices call
     → (sent : List ℕ) × (after : MboxMail) × ((link.history call.wire').sent ≡ (link.history call.wire).sent ++ sent)
     × ShowsMbox file call.after after × (appends : AppendsMail world.start is.holds call sent after)
     × (TrustsMbox file devices call.after → IsMboxSafe (λ first seen. HoldsAMboxPrefix world first seen
     × AllByRecursion (IsUnbegun seen) withdrawn) file devices → IsMboxSafe (HoldsAMboxPrefix next) file call.after)
     × HoldMboxPrefixes link disk file next (done ++ appends.more) after call.after later)
 HoldMboxPrefixes link disk file world done account devices (Left left now ∷ later) = ShowsMbox file devices account
-    × HoldsAMboxPrefix world done account × (ShowsMbox file left now → ((from : Base) (held : List Message)
-    → IsMaildrop from.text world.all → let next = record world { start = from } in HoldsAMboxPrefix next held now
+    × HoldsAMboxPrefix world done account × (ShowsMbox file left now → (from : Base) (held : List Message)
+    → IsMaildrop (IsTextOf from) world.all → let next = record world { start = from } in HoldsAMboxPrefix next held now
     → HoldMboxPrefixes link disk file next held now left later)
-    × (IsMboxSafe (HoldsAMboxPrefix world) file devices → IsFileLeft file devices.store left.store
-    → IsFileLeft file devices.file left.file → IsMboxSafe (HoldsAMboxPrefix world) file left
-    × ((held : List Message) × HoldMboxPrefixes link disk file world held now left later)))
+HoldMboxPrefixes link disk file world done account devices (Lost left now ∷ later) = ShowsMbox file devices account
+    × HoldsAMboxPrefix world done account × (IsMboxSafe (HoldsAMboxPrefix world) file devices
+    → IsMboxLeftByLoss file devices left now → BeginsWithEntries world.start done now.file
+    × IsMboxSafe (HoldsAMboxPrefix world) file left
+    × ((held : List Message) × HoldMboxPrefixes link disk file world held now left later))
 
 -- the law: so it is from each such account
 abbrev pub MboxHeadline : {W D F : Type 0} → WireGhosts W → DiskGhosts D → FileGhosts F → Type 0
 MboxHeadline {W} {D} {F} link disk file = (world : World Base) (done : List Message) (account : MboxMail)
     (devices : Devices F F) (list : List (Happening (Call W F F) (Devices F F) MboxMail))
-    → IsMaildrop world.start.text world.all → ShowsMbox file devices account → HoldsAMboxPrefix world done account
+    → IsMaildrop (IsTextOf world.start) world.all → ShowsMbox file devices account → HoldsAMboxPrefix world done account
     → HoldMboxPrefixes link disk file world done account devices list

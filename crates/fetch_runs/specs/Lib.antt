@@ -4,6 +4,9 @@ pub mod Calls
 pub mod Conversations
 pub mod Headline
 pub mod Losses
+pub mod Progress
 pub mod Promises
 pub mod Sessions
 pub mod Steps
+pub mod VisitPromises
+pub mod Visits

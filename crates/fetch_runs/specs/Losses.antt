@@ -18,7 +18,7 @@ use Rattle.fetch_runs.specs.{
   Promises.{Devices, Mail, State, IsFront, Invariant},
   Sessions.MboxMail,
 }
-use Rattle.fetch_session.specs.Target.{mail_in}
+use Rattle.fetch_session.specs.{Target.mail_in, declared.report.Outcome.{Outcome, TheVariants.Ended}}
 
 -- a file of the message is there whose name is durable, or the message was taken away
 abbrev pub is_durable : Mail → State → List ℕ → Bool
@@ -42,6 +42,22 @@ pub record IsCrashSafe (disk : Disk) (mail : Mail) (state : State) : Type 0 wher
       → FileStandsFor bytes rows intent
       → (id : List ℕ) → is_delivered rows id ≡ true → (is_legal_id id ≡ true) × (is_durable mail state id ≡ true)
   pub gone : AllByRecursion (λ id. is_durable mail state id ≡ true) state.gone
+
+-- these rows show what those show as delivered
+abbrev pub ShowsAll : List Row → List Row → Type 0
+ShowsAll was rows = (id : List ℕ) → is_delivered was id ≡ true → is_delivered rows id ≡ true
+
+-- this holds of the rows that whatever a loss of power may leave of the record's file stands for
+abbrev pub LeavesRows : Disk → (List Row → Type 0) → Type 0
+LeavesRows disk Is = (left : Option (List ℕ)) (rows : List Row) (intent : Option Intent) → MayLeave disk left
+    → FileStandsFor left rows intent → Is rows
+
+-- whatever may be left of the record's file after a call could be left before, or shows what the record showed. If the
+-- call was uncut, the record is as it was, or whatever may be left shows all that it shows
+pub record KeepsRecorded (disk disk' : Disk) (rows rows' : List Row) (outcome : Outcome) : Type 0 where
+  pub left : (left : Option (List ℕ)) (shown : List Row) (intent : Option Intent) → MayLeave disk' left
+      → FileStandsFor left shown intent → MayLeave disk left ⊎ ShowsAll rows shown
+  pub uncut : outcome ≡ Ended → (rows' ≡ rows) ⊎ LeavesRows disk' (ShowsAll rows')
 
 -- no flush of the record's file was refused before a call, and if no such file is left, a loss of power leaves none
 abbrev pub TrustsRecord : {F : Type 0} → FileGhosts F → F → F → Type 0

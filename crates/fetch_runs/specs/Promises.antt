@@ -1,5 +1,5 @@
 -- What a call of `session` promises, in what the account's files mean, and what holds before and after it. A server may
--- show any messages, in any order, and each call may have other limits: what stays is that a unique-id names one text.
+-- show any messages, in any order, and each call may have other limits: what stays is which texts come for a unique-id.
 use Rattle.std.{
   specs.Prelude.{◌≡◌, ◌⊎◌, ◌<◌, ◌-◌, ◌&&◌, ◌||◌, ℕ, Bool, true, false, not, List, [], ◌∷◌, ◌++◌, map, length, Some},
   specs.Prelude.{slice_get, None, is_none},
@@ -39,24 +39,30 @@ pub record Call (W S F : Type 0) : Type 0 where
   pub maildrop : List Message
   pub vanished : List (List ℕ)
 
--- what stays throughout: the account's text, as it is in the names of its files, and the text that each id names
+-- what stays throughout: the account's text, as it is in the names of its files; and which texts come for each id
 pub record Mail : Type 0 where
   pub account : List ℕ
-  pub text : List ℕ → List ℕ
+  pub is_text : List ℕ → List ℕ → Bool
 
--- a message with a legal id, and the text that the id names; its size may be listed differently each time
-pub record IsOf (text_of : List ℕ → List ℕ) (message : Message) : Type 0 where
+-- a text that comes for an id
+abbrev pub ComesFor : Mail → List ℕ → List ℕ → Type 0
+ComesFor mail id text = mail.is_text id text ≡ true
+
+-- one text comes for each id
+abbrev pub OneComes : Mail → Type 0
+OneComes mail = (id text other : List ℕ) → ComesFor mail id text → ComesFor mail id other → text ≡ other
+
+-- a message with a legal id, and a text that comes for it; its size may be listed differently each time
+pub record IsOf (Comes : List ℕ → List ℕ → Type 0) (message : Message) : Type 0 where
   pub legal : is_legal_id message.uid ≡ true
-  pub whole : IsWhole message.text
-  pub text : message.text ≡ text_of message.uid
+  pub text : Comes message.uid message.text
 
 -- a maildrop: any such messages, in any order, no two of which share an id
-pub record IsMaildrop (text_of : List ℕ → List ℕ) (maildrop : List Message) : Type 0 where
-  pub each : AllByRecursion (IsOf text_of) maildrop
+pub record IsMaildrop (Comes : List ℕ → List ℕ → Type 0) (maildrop : List Message) : Type 0 where
+  pub each : AllByRecursion (IsOf Comes) maildrop
   pub distinct : AreDistinct (message_ids maildrop)
 
--- an account; the ids that are gone from the server; and which messages were taken away: they were held and aren't, or
--- only under a name that a loss of power may take
+-- an account; the ids that are gone from the server; and which messages were taken away (see `state_with`)
 pub record State : Type 0 where
   pub account : AccountMail
   pub gone : List (List ℕ)
@@ -69,10 +75,11 @@ is_safe mail state id = is_held mail.account state.account.maildir id || state.t
 abbrev pub IsSafe : Mail → State → List ℕ → Type 0
 IsSafe mail state id = (is_legal_id id ≡ true) × (is_safe mail state id ≡ true)
 
--- each message is in one file with its text, or in none
+-- each message is in one file with a text that comes for it, or in none
 abbrev pub HoldsEachOnce : Mail → AccountMail → Type 0
 HoldsEachOnce mail account = (id : List ℕ) → is_legal_id id ≡ true
-    → let texts = copies account.maildir.files (stem_of mail.account id) in (texts ≡ []) ⊎ (texts ≡ mail.text id ∷ [])
+    → let texts = copies account.maildir.files (stem_of mail.account id) in
+    (texts ≡ []) ⊎ ((text : List ℕ) × ComesFor mail id text × (texts ≡ text ∷ []))
 
 -- the state once this is its account, and these ids are gone too. What was held or taken away, and isn't held, was
 -- taken away; and what was taken away before still counts so until a file of it is there whose name is durable
@@ -120,16 +127,17 @@ pub record IsNew {W S F : Type 0} (mail : Mail) (before : AccountMail) (call : C
   pub unheld : is_held mail.account before.maildir m.uid ≡ false
   pub unrecorded : call.settings.read_all ≡ false → is_delivered before.rows m.uid ≡ false
 
--- a call that sent this, and left this account. Each DELE, the last perhaps in part, is for a message that is held when
--- the session returns, or was taken away before it began; and an uncut one reports as many texts as it sent RETRs. No
--- file is lost, only files of new messages come, and what is recorded stays so
+-- a call that sent this, and left this account. Each DELE, the last perhaps in part, is for a message that is held or
+-- was taken away. An uncut one reports as many texts as it sent RETRs, and records what it knew and wanted. What QUIT
+-- removed is recorded. No file is lost, only files of new messages come, and what is recorded stays so
 pub record Promises {W S F : Type 0} (mail : Mail) (state : State) (call : Call W S F) (sent : List ℕ)
     (after : AccountMail) : Type 0 where
   pub wanted : FetchesWanted call (λ id. list_any (names_id mail.account id) after.maildir.odd)
       (λ id. is_delivered state.account.rows id || is_held mail.account state.account.maildir id)
-      (λ m. IsSafe mail (state_with mail state call.vanished after) m.uid)
+      (λ m. IsSafe mail (state_with mail state call.vanished after) m.uid × (is_delivered after.rows m.uid ≡ true))
   pub deletes : SendsOnly (DeletesOneOf call.maildrop (IsSafe mail (state_with mail state call.vanished after))) sent
   pub retrieved : call.report.outcome ≡ Ended → call.report.retrieved ≡ count_by is_retr deletes.commands
+  pub vanished : AllByRecursion (λ id. is_delivered after.rows id ≡ true) call.vanished
   pub came : List Message
   pub added : without_flags after.maildir.files ≡ without_flags state.account.maildir.files
       ++ map (λ (m : Message). file (name_of mail.account m.uid (length m.text)) m.text) came
@@ -154,6 +162,10 @@ pub record Base : Type 0 where
   pub had : List ℕ → Bool
   pub text : List ℕ → List ℕ
 
+-- the text that an id names, which is empty or ends in LF
+abbrev pub IsTextOf : Base → List ℕ → List ℕ → Type 0
+IsTextOf base id text = (text ≡ base.text id) × IsWhole text
+
 -- the id is that of one of these messages, or was recorded before the first session
 abbrev pub is_entered : Base → List Message → List ℕ → Bool
 is_entered base done id = base.had id || has_id (message_ids done) id
@@ -166,7 +178,7 @@ base_from base after = record base { start = after.file; had = λ id. is_deliver
 -- of power may leave of the entry: all of it, a prefix, or one with zeros
 pub record IsOpenFor (base : Base) (bytes : List ℕ) (account : MboxMail) : Type 0 where
   pub next : Message
-  pub is : IsOf base.text next
+  pub is : IsOf (IsTextOf base) next
   pub unrecorded : is_delivered account.rows next.uid ≡ false
   pub intent : account.intent ≡ Some (entry_intent bytes next.uid next.text)
   pub part : List ℕ
@@ -180,7 +192,7 @@ Stands base bytes account = ((account.intent ≡ None) × (account.file ≡ byte
 -- the file is the one before the first session, then the entries of these messages, in this order, each once, and then
 -- perhaps a part of another one's, whose intent is open. These are recorded, and what was before the first session
 pub record HoldsEntries (base : Base) (done : List Message) (account : MboxMail) : Type 0 where
-  pub are : IsMaildrop base.text done
+  pub are : IsMaildrop (IsTextOf base) done
   pub new : AllByRecursion (λ (m : Message). base.had m.uid ≡ false) done
   pub recorded : (id : List ℕ) → is_delivered account.rows id ≡ is_entered base done id
   pub stands : Stands base (base.start ++ entries_of done) account
@@ -196,9 +208,8 @@ pub record IsMboxFront (base : Base) {done : List Message} {account : MboxMail} 
   pub next : (o : IsOpenFor base (base.start ++ entries_of done) account) → holds.stands ≡ inr o
       → (more : List Message) × (rest ≡ o.next ∷ more)
 
--- after an uncut session no intent is open, and the file ends after a whole entry; of its new entries those that it
--- found whole come first. Each DELE, the last perhaps in part, and what QUIT removes is of a message that has its whole
--- entry at the end, or was recorded before the first session
+-- an uncut session leaves no intent open, and whole entries; of the new ones those that it found whole come first. Each
+-- DELE, the last perhaps in part, and what QUIT removes is of a message that has an entry, or was recorded at the start
 pub record MboxPromises {W S F : Type 0} (base : Base) (before done : List Message) (call : Call W S F)
     (sent : List ℕ) (after : MboxMail) : Type 0 where
   pub closed : call.report.outcome ≡ Ended → after.intent ≡ None

@@ -6,8 +6,11 @@ ghost use Rattle.fetch_runs.specs.{
   Conversations.{MboxSessionsFollowPlans, SessionsAreConversations},
   Headline.{EmptyFrontsBegin, EntriesMeanTexts, Headline, MboxHeadline, MboxFrontsBegin, NoneTaken, TakenStaysAway},
   Losses.{DurableAccountsAreSafe, DurableFrontsBegin},
+  Progress.{CallsGetFar, MboxCallsGetFar},
   Promises.MboxStarts,
   Steps.{MboxSessionsLoseNothing, SessionsLoseNothing},
+  VisitPromises.VisitsKeepPromises,
+  Visits.{VisitsAreCalls, VisitsKeepStates},
 };
 
 use fetch_rules::{
@@ -117,13 +120,12 @@ pub fn mbox_sessions_lose_nothing()
     laws_below();
 }
 
-/// The statement, for a Maildir: where a unique-id always names one text, after any list of calls of
-/// `session`, each cut at any reply or refused write, over maildrops in any order and under any limits, each
-/// message is in one file, byte for byte with lines ended by LF, or in none; an uncut call leaves out only
-/// what its own limits exclude, and messages whose file name is taken by what can't be opened; DELE was sent only
-/// for messages held; no file is lost; and what is recorded as delivered, or is gone from the server, is held or
-/// was taken away. If a server shows the messages of a list in their order, and no call met such a name, the
-/// first of these are held.
+/// The statement, for a Maildir: after any list of calls of `session`, each cut at any reply or refused write,
+/// over maildrops in any order and under any limits, each message is in one file, with a text that came for its
+/// unique-id, byte for byte with lines ended by LF, or in none; an uncut call leaves out only what its own limits
+/// exclude, and messages whose file name is taken by what can't be opened; DELE was sent only for messages held; no
+/// file is lost; and what is recorded as delivered, or is gone from the server, is held or was taken away. If a
+/// server shows the messages of a list in their order, and no call met such a name, the first of these are held.
 ///
 /// At any moment, also during a call, a mail reader may move files between `new` and `cur`, change their
 /// marks, and take them away. Between two calls a process may start anew, readers may put messages back, and
@@ -134,6 +136,22 @@ pub fn calls_keep_promises<W: Wire, D: MaildirDisk, F: FlatFile>()
     ensures { CallsKeepPromises W.Wire D.MaildirDisk F.FlatFile }
 {
     laws_below();
+}
+
+/// The visits of `run_sessions` are calls, as the statement speaks of them, whatever is said of their servers: so
+/// what is promised of any list of calls is promised of them.
+pub fn visits_are_calls<W: Wire, D: MaildirDisk, F: FlatFile>()
+    ensures { VisitsAreCalls W.Wire D.MaildirDisk F.FlatFile }
+{}
+
+/// If their servers were honest, and the devices did what their traits say, they leave a state with the invariant, if
+/// they began with one. With an mboxrd file, if they read only what is new, the file holds the entries of messages
+/// after them, if it did before: those, and perhaps more.
+pub fn visits_keep_states<W: Wire, D: MaildirDisk, F: FlatFile>()
+    ensures { VisitsKeepStates W.Wire D.MaildirDisk F.FlatFile }
+{
+    calls_keep_promises::<W, D, F>();
+    mbox_calls_keep_promises::<W, D, F>();
 }
 
 /// A message that is recorded as delivered and was taken away isn't stored again by a call that reads only what
@@ -164,6 +182,20 @@ pub fn none_taken()
 pub fn headline<W: Wire, D: MaildirDisk, F: FlatFile>()
     ensures { Headline W.Wire D.MaildirDisk F.FlatFile }
 {
+    calls_keep_promises::<W, D, F>();
+}
+
+/// Progress: over a maildrop that stays, but for messages that are recorded, with the same limits, if all in the
+/// Maildir can be opened, after any list of calls of `session` that read only what is new, of which k were uncut, the
+/// record shows all that the limit on sizes leaves as delivered, or at least k times as many messages as a call may
+/// fetch. Each of these is held or was taken away.
+///
+/// It is so whatever readers do, and if others keep the record. If no flush of the record's file was refused, calls
+/// count in a loss of power too: all until the last uncut one that changed the record.
+pub fn calls_get_far<W: Wire, D: MaildirDisk, F: FlatFile>()
+    ensures { CallsGetFar W.Wire D.MaildirDisk F.FlatFile }
+{
+    laws_below();
     calls_keep_promises::<W, D, F>();
 }
 
@@ -215,6 +247,15 @@ pub fn mbox_calls_keep_promises<W: Wire, D: MaildirDisk, F: FlatFile>()
     sessions_by_store::<W, D, F>();
 }
 
+/// Progress with an mboxrd file: so it is, and each of these messages has its entry, or was recorded before the first
+/// call or before others last wrote the file.
+pub fn mbox_calls_get_far<W: Wire, D: MaildirDisk, F: FlatFile>()
+    ensures { MboxCallsGetFar W.Wire D.MaildirDisk F.FlatFile }
+{
+    laws_below();
+    mbox_calls_keep_promises::<W, D, F>();
+}
+
 /// With an mboxrd file: what a loss of power leaves holds entries if nothing else may be left of both files than
 /// what calls see.
 #[tactic(auto, using(crate::proofs::Calls::durable_is_mbox_safe))]
@@ -254,3 +295,17 @@ pub fn mbox_headline<W: Wire, D: MaildirDisk, F: FlatFile>()
 pub fn mbox_fronts_begin()
     ensures { MboxFrontsBegin }
 {}
+
+/// All that is promised of any list of calls, and of those in order, by the headlines, and of progress, is promised of
+/// the visits of `run_sessions`.
+pub fn visits_keep_promises<W: Wire, D: MaildirDisk, F: FlatFile>()
+    ensures { VisitsKeepPromises W.Wire D.MaildirDisk F.FlatFile }
+{
+    visits_are_calls::<W, D, F>();
+    calls_keep_promises::<W, D, F>();
+    headline::<W, D, F>();
+    calls_get_far::<W, D, F>();
+    mbox_calls_keep_promises::<W, D, F>();
+    mbox_headline::<W, D, F>();
+    mbox_calls_get_far::<W, D, F>();
+}

@@ -10,3 +10,4 @@ pub mod SessionLemmas
 pub mod TakenLemmas
 mod TalkLemmas
 pub mod TextLemmas
+pub mod VisitLemmas

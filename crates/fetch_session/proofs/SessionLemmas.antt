@@ -428,7 +428,9 @@ files_session disk file store (InMbox device') digits Did A B C kind met never =
 
 -- no file is taken from an mboxrd file
 none_left : (left : Maildir) → WereTaken no_maildir left → left ≡ no_maildir
-none_left left taken = let none = is_none taken.gone left.files taken.files in taken.is ∙ rw (none.0, none.1, taken.odd refl) refl
+none_left left taken =
+    let none = is_none taken.gone left.files taken.files in
+    taken.is ∙ rw (none.0, none.1, taken.odd refl refl, taken.told refl) refl
   where
     is_none : (gone files : List File) → IsWithout [] gone files → (gone ≡ []) × (files ≡ [])
     is_none [] [] _ = (refl, refl)

@@ -24,3 +24,4 @@ pub mod Pretend
 pub mod Telling
 pub mod Reasons
 pub mod Hearing
+pub mod Visits

@@ -36,6 +36,7 @@ no_maildir = record {
   failures = 0;
   taken = [];
   odd = [];
+  told = [];
 }
 
 abbrev pub no_mbox : Stored

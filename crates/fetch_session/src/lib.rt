@@ -1,4 +1,4 @@
-//! One session of a POP3 retriever: what it asks, stores, remembers and deletes.
+//! A session of a POP3 retriever: what it asks, stores, remembers and deletes; and several, one after another.
 #![tactic(auto)]
 
 mod account;
@@ -22,6 +22,7 @@ mod tail;
 mod telling;
 mod terms;
 mod text;
+mod visits;
 mod work;
 
 pub use account::{Account, Store};
@@ -33,8 +34,10 @@ pub use laws::{
 pub use listener::{Listener, Silent};
 pub use message_preview::MessagePreview;
 pub use one_session::{session, session_told};
+pub use pop3_wire::Asked;
 pub use preview::{Preview, pretend};
 pub use reasons::{explained_line, told_report};
 pub use report::{LeftOut, Outcome, Report, ReportLine};
 pub use telling::preview_text;
 pub use text::{fault_number, fault_text, heading, line_text, report_text};
+pub use visits::{Visit, promised_session, run_sessions};

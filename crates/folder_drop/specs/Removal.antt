@@ -1,6 +1,12 @@
 -- Which files are removed with a message: all with its base, if each is the listed file or has its octets; else none.
-use Rattle.std.specs.{Prelude.{◌≡◌, ◌≢◌, ◌⊎◌, ◌<◌, ℕ, true, false, List, length}, List.{All, HoldsAt}}
-use Rattle.folder_drop.specs.declared.{maildir_names.Stamp.Stamp, removal.{FileNumber.FileNumber, Namesake.Namesake}}
+use Rattle.std.specs.{
+  Prelude.{◌≡◌, ◌≢◌, ◌⊎◌, ◌<◌, ◌++◌, ◌∷◌, [], ℕ, true, false, List, length},
+  List.{All, Contains, HoldsAt},
+}
+use Rattle.folder_drop.specs.declared.{
+  maildir_names.Stamp.Stamp,
+  removal.{FileNumber.FileNumber, Namesake.Namesake, Removal.{Removal, TheVariants.{Of, RefusedFor}}},
+}
 
 -- the file is where the message was listed
 abbrev pub IsInPlace : Namesake → Type 0
@@ -31,3 +37,9 @@ GoesWith number file = (file.number ≡ number) ⊎ (file.is_copy ≡ true)
 -- the file is another one, and doesn't have its octets
 abbrev pub IsOtherFile : FileNumber → Namesake → Type 0
 IsOtherFile number file = (file.number ≢ number) × (file.is_copy ≡ false)
+
+-- all the files with the base of the listed one go, and that one last; or none does, if one may be another message
+abbrev pub IsRemoval : Namesake → List Namesake → Removal → Type 0
+IsRemoval listed others (Of files) = (files.items ≡ others ++ listed ∷ []) × All (GoesWith listed.number) others
+IsRemoval listed others (RefusedFor one other) =
+    (one ≡ listed) × Contains others other × IsOtherFile listed.number other

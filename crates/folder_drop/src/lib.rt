@@ -7,6 +7,7 @@ mod listing;
 mod maildir_drop;
 mod maildir_folders;
 mod maildir_names;
+mod open_folder;
 mod removal;
 mod same_octets;
 mod seen_files;

@@ -1,5 +1,5 @@
 //! The files of a Maildir whose messages are listed, and their sizes as messages.
-ghost use Rattle.std.specs.{Prelude.{◌≡◌, IsTrue, IfSome}, String.string_bytes};
+ghost use Rattle.std.specs.{Fs.metadata_len, Prelude.{◌≡◌, ◌↔◌, IsTrue, IfSome}, String.string_bytes};
 ghost use Rattle.mail_terms.specs.MaildirName.{base as base_of};
 ghost use Rattle.folder_drop.specs.{CountedSizes.WasCounted, RealMaildir.listed_name};
 
@@ -8,7 +8,7 @@ use mail_terms::base;
 use pop3_server::SizeCount;
 use std::fs::Metadata;
 use std::io::{self, Read};
-use std::time::UNIX_EPOCH;
+use std::time::{Duration, UNIX_EPOCH};
 
 /// How many octets of a file are read at a time.
 pub const PIECE: usize = 65_536;
@@ -56,8 +56,8 @@ impl ListedFile {
     }
 
     /// Whether its place is that of a file that was found.
-    fn is_same(&self, found: &PlacedFile) -> bool
-        ensures { IsTrue result → (self.now.folder ≡ found.now.folder)
+    pub fn is_same(&self, found: &PlacedFile) -> bool
+        ensures { IsTrue result ↔ (self.now.folder ≡ found.now.folder)
             × (string_bytes self.now.name ≡ string_bytes found.now.name) }
     {
         self.folder == found.folder && self.name.as_str() == found.name.as_str()
@@ -70,19 +70,14 @@ impl ListedFile {
 }
 
 /// The stamp of a file. A time that is before 1970, or that the system doesn't give, counts as 1970.
-pub fn stamp_of(metadata: &Metadata) -> Stamp {
-    let mut stamp = Stamp {
-        length: metadata.len(),
-        seconds: 0,
-        nanoseconds: 0,
+pub fn stamp_of(metadata: &Metadata) -> Stamp
+    ensures { result.length ≡ metadata_len metadata.now }
+{
+    let passed = match metadata.modified() {
+        Ok(modified) => modified.duration_since(UNIX_EPOCH).ok(),
+        Err(_) => None,
     };
-    if let Ok(modified) = metadata.modified() {
-        if let Ok(passed) = modified.duration_since(UNIX_EPOCH) {
-            stamp.seconds = passed.as_secs();
-            stamp.nanoseconds = passed.subsec_nanos();
-        }
-    }
-    stamp
+    Stamp::at(metadata.len(), passed.unwrap_or(Duration::ZERO))
 }
 
 /// Sizes that were counted for an earlier listing, in the order in which files are listed. They have to

@@ -131,7 +131,9 @@ impl<'a, R: Files + Clock + RandomSource + AllocGlobal + Clone + Drop> MaildirDr
     /// The path of what was refused last, unless memory ran out.
     fn unread_at(&self, error: &io::Error) -> Option<String> {
         match self.system.refusals.take() {
-            Some(refusal) if error.kind() != ErrorKind::OutOfMemory => Some(refusal.path),
+            Some(refusal) if error.kind() != ErrorKind::OutOfMemory => {
+                Some(self.folders.named(refusal.path))
+            }
             _ => None,
         }
     }

@@ -5,8 +5,8 @@ ghost use Rattle.std.specs.{Prelude.{◌≡◌, ℕ, List}, String.string_bytes}
 use crate::folders_look::FoldersLook;
 use crate::listed_file::{ListedFile, PIECE, count_size, stamp_of};
 use crate::maildir_names::{Folder, PlacedFile, Stamp};
-use crate::removal::{FileNumber, Namesake, TwoMessages, listed_place, removed_with};
-use crate::same_octets::have_same_octets;
+use crate::open_folder::{FileWay, OPEN_FILES, OpenFolder};
+use crate::removal::{FileNumber, Namesake, Removal, TwoMessages, listed_place, removal_of};
 use crate::seen_files::SeenFiles;
 use folder_store::{ChangeTime, HostFolders, ProcessMark, Sought, list_both};
 use mail_terms::base;
@@ -20,16 +20,23 @@ use system_calls::{Noted, System};
 /// How many times a file is tried, if it has a new name each time.
 const MOST_TRIES: u32 = 10;
 
-/// Why a file or a folder isn't read.
+/// Why a file isn't read.
 const BUSY: &str = "changes all the time";
-
-const NOT_REGULAR: &str = "not a regular file";
 
 /// The folders `new` and `cur` of the Maildir at a path.
 #[derive(Drop)]
 pub struct MaildirFolders<'a, R: Files + AllocGlobal + Clone + Drop> {
     system: &'a System<'a, R>,
     path: String,
+    /// Both, open since the last look.
+    open: Option<OpenFolders<'a, R>>,
+}
+
+/// The two folders, open.
+#[derive(Drop)]
+struct OpenFolders<'a, R: Files + AllocGlobal + Clone + Drop> {
+    new_folder: OpenFolder<'a, R>,
+    cur_folder: OpenFolder<'a, R>,
 }
 
 impl<'a, R: Files + AllocGlobal + Clone + Drop> Model for MaildirFolders<'a, R> {
@@ -50,23 +57,16 @@ fn add_files(
     Ok(())
 }
 
-/// Opens a regular file. Nothing else is opened: a pipe that nobody writes to would be waited for.
-fn open_regular<'a, R: Files + AllocGlobal>(
-    system: &System<'a, R>,
-    path: &str,
-) -> io::Result<Noted<'a, R::File>> {
-    if system.lstat(path)?.is_file() {
-        return system.open(path);
-    }
-    Err(system.refusals.refuse(path, NOT_REGULAR))
-}
-
 impl<'a, R: Files + Clock + AllocGlobal + Clone + Drop> MaildirFolders<'a, R> {
     /// The folders of the Maildir at this path.
     pub fn at(system: &'a System<'a, R>, path: String) -> MaildirFolders<'a, R>
         ensures { result ≡ string_bytes path }
     {
-        MaildirFolders { system, path }
+        MaildirFolders {
+            system,
+            path,
+            open: None,
+        }
     }
 
     /// The path of the Maildir.
@@ -76,110 +76,150 @@ impl<'a, R: Files + Clock + AllocGlobal + Clone + Drop> MaildirFolders<'a, R> {
         self.path
     }
 
-    /// The path of a folder.
-    fn folder_path(&self, folder: Folder) -> io::Result<String> {
-        let path = self.path.as_str();
-        let name = folder.name();
-        Ok(format!(in self.system.alloc(); "{path}/{name}")?)
+    /// Opens a folder.
+    fn open_folder(&self, folder: Folder) -> io::Result<OpenFolder<'a, R>> {
+        let (path, name) = (self.path.as_str(), folder.name());
+        let path = format!(in self.system.alloc(); "{path}/{name}")?;
+        OpenFolder::open(self.system, path)
     }
 
-    /// The path of a file in a folder.
-    fn path_of(&self, folder: Folder, name: &str) -> io::Result<String> {
-        let path = self.path.as_str();
-        let folder = folder.name();
-        Ok(format!(in self.system.alloc(); "{path}/{folder}/{name}")?)
+    /// A folder that was opened. NotFound before the first look.
+    fn folder(&self, folder: Folder) -> io::Result<&OpenFolder<'a, R>> {
+        match &self.open {
+            None => Err(io::Error::from(ErrorKind::NotFound)),
+            Some(open) => match folder {
+                Folder::New => Ok(&open.new_folder),
+                Folder::Cur => Ok(&open.cur_folder),
+            },
+        }
     }
 
-    /// When a folder was last changed.
-    fn change_of(&self, folder: Folder) -> io::Result<ChangeTime> {
-        let path = self.folder_path(folder)?;
-        Ok(ChangeTime::of(&self.system.stat(path.as_str())?))
-    }
-
-    /// A look at both folders. The clock is read first, so that a change which the look misses has a
+    /// Opens both folders, and looks at them. The clock is read first, so that a change which the look misses has a
     /// time no older than the look.
-    pub fn look(&self) -> io::Result<FoldersLook> {
+    pub fn look(&mut self) -> io::Result<FoldersLook>
+        ensures { self.new ≡ self.old }
+    {
         let at = match self.system.rt.since_1970() {
             Ok(passed) => passed.as_secs(),
             Err(_) => 0,
         };
-        Ok(FoldersLook {
+        let new_folder = self.open_folder(Folder::New)?;
+        let cur_folder = self.open_folder(Folder::Cur)?;
+        let look = FoldersLook {
             at,
-            new: self.change_of(Folder::New)?,
-            cur: self.change_of(Folder::Cur)?,
-        })
+            new: new_folder.change()?,
+            cur: cur_folder.change()?,
+        };
+        self.open = Some(OpenFolders {
+            new_folder,
+            cur_folder,
+        });
+        Ok(look)
+    }
+
+    /// The path by which a file or a folder is named for which a call was refused.
+    pub fn named(&self, refused: String) -> String {
+        for folder in [Folder::New, Folder::Cur] {
+            if let Ok(folder) = self.folder(folder) {
+                if let Some(path) = folder.path_for(refused.as_str()) {
+                    return String::from_str(self.system.alloc(), path).unwrap_or(refused);
+                }
+            }
+        }
+        refused
     }
 
     /// The files of both folders at one moment, in order: each once, although others move files between
     /// the two meanwhile. Refused if `new` changes all the time.
     pub fn list(&self) -> io::Result<Vec<PlacedFile>> {
-        let mut folders = HostFolders::of_maildir(
+        let (in_new, in_cur) = (self.folder(Folder::New)?, self.folder(Folder::Cur)?);
+        let mut folders = HostFolders::named(
             self.system,
-            self.path.as_str(),
+            OPEN_FILES,
+            (in_new.number_text(), in_cur.number_text()),
             ProcessMark::none(),
         );
-        let Ok((in_new, in_cur)) = list_both(&mut folders, Sought::All) else {
+        let Ok(names) = list_both(&mut folders, Sought::All) else {
             return Err(self.system.refusals.error());
         };
+        in_new.check_place()?;
+        in_cur.check_place()?;
         let mut files = Vec::new(self.system.alloc());
-        add_files(&mut files, Folder::New, in_new)?;
-        add_files(&mut files, Folder::Cur, in_cur)?;
+        add_files(&mut files, Folder::New, names.0)?;
+        add_files(&mut files, Folder::Cur, names.1)?;
         files.sort_unstable_by(|a, b| a.place().cmp(&b.place()));
         Ok(files)
     }
 
-    /// The path of a file that isn't at `tried` any more: where the last listing saw a file with its
+    /// The place of a file that isn't at `tried` any more: where the last listing saw a file with its
     /// base, else where a new listing does. None if no file has it.
-    fn path_now(
+    fn place_now(
         &self,
         seen: &mut SeenFiles,
-        base: &str,
-        tried: &str,
-    ) -> io::Result<Option<String>> {
+        tried: (Folder, &str),
+    ) -> io::Result<Option<(Folder, String)>> {
+        let alloc = self.system.alloc();
+        let base = base(tried.1);
         if let Some(file) = seen.with_base(base, 0) {
-            let path = self.path_of(file.folder, file.name.as_str())?;
-            if path.as_str() != tried {
-                return Ok(Some(path));
+            let name = file.name.as_str();
+            if (file.folder, name) != tried {
+                return Ok(Some((file.folder, String::from_str(alloc, name)?)));
             }
         }
         seen.renew(self.list()?);
         match seen.with_base(base, 0) {
-            Some(file) => Ok(Some(self.path_of(file.folder, file.name.as_str())?)),
+            Some(file) => {
+                let name = String::from_str(alloc, file.name.as_str())?;
+                Ok(Some((file.folder, name)))
+            }
             None => Ok(None),
         }
     }
 
-    /// Does something with the file of this name, or if that is gone, with the one that has its base now.
-    /// None if no file has it.
-    fn reach<T: Drop, A: FnMut(&System<'a, R>, &str) -> io::Result<T>>(
+    /// Does something with the file of this name in a folder, or if that is gone, with the one that has its base
+    /// now. None if no file has it.
+    fn reach<T: Drop, A: FnMut(&OpenFolder<'a, R>, &FileWay) -> io::Result<T>>(
         &self,
         seen: &mut SeenFiles,
-        folder: Folder,
-        name: &str,
+        place: (Folder, &str),
         mut act: A,
     ) -> io::Result<Option<T>>
         requires { A.IsAlwaysCallable act }
     {
-        let mut path = self.path_of(folder, name)?;
+        let mut folder = place.0;
+        let mut name = String::from_str(self.system.alloc(), place.1)?;
         for _ in 0..MOST_TRIES {
-            match act(self.system, path.as_str()) {
+            let open = self.folder(folder)?;
+            match act(open, &open.file(name.as_str())?) {
                 Ok(done) => return Ok(Some(done)),
                 Err(error) if error.kind() == ErrorKind::NotFound => {}
                 Err(error) => return Err(error),
             }
-            match self.path_now(seen, base(name), path.as_str())? {
-                Some(now) => path = now,
+            match self.place_now(seen, (folder, name.as_str()))? {
+                Some(now) => (folder, name) = now,
                 None => return Ok(None),
             }
         }
-        Err(self.system.refusals.refuse(path.as_str(), BUSY))
+        Err(self.busy(folder, name.as_str()))
+    }
+
+    /// The error for a file that has a new name each time.
+    fn busy(&self, folder: Folder, name: &str) -> io::Error {
+        match self.file(folder, name) {
+            Ok(file) => self.system.refusals.refuse(file.into_path().as_str(), BUSY),
+            Err(error) => error,
+        }
+    }
+
+    /// What a name in a folder stands for.
+    fn file(&self, folder: Folder, name: &str) -> io::Result<FileWay> {
+        self.folder(folder)?.file(name)
     }
 
     /// The stamp of a regular file. None if it isn't one, or is gone.
     pub fn stamp(&self, seen: &mut SeenFiles, file: &PlacedFile) -> io::Result<Option<Stamp>> {
-        let told = self.reach(seen, file.folder, file.name.as_str(), |system, path| {
-            system.lstat(path)
-        })?;
+        let place = (file.folder, file.name.as_str());
+        let told = self.reach(seen, place, |folder, file| folder.look_up(file))?;
         match told {
             Some(metadata) if metadata.is_file() => Ok(Some(stamp_of(&metadata))),
             _ => Ok(None),
@@ -195,22 +235,22 @@ impl<'a, R: Files + Clock + AllocGlobal + Clone + Drop> MaildirFolders<'a, R> {
     ) -> io::Result<Option<Noted<'a, R::File>>> {
         self.reach(
             seen,
-            folder,
-            name,
-            |system, path| open_regular(system, path),
+            (folder, name),
+            |folder, file| folder.open_regular(file),
         )
     }
 
     /// A file with the base of a listed one, as it is now. None if it isn't a regular file; in the place of the
     /// listed one that is refused. NotFound if it isn't where it was seen.
     fn namesake(&self, file: &PlacedFile, listed: &ListedFile) -> io::Result<Option<Namesake>> {
-        let is_in_place = file.folder == listed.folder
-            && file.name.as_str() == listed.name.as_str();
-        let path = self.path_of(file.folder, file.name.as_str())?;
-        let found = self.system.lstat(path.as_str())?;
+        let is_in_place = listed.is_same(file);
+        let folder = self.folder(file.folder)?;
+        let way = folder.file(file.name.as_str())?;
+        let found = folder.look_up(&way)?;
         if found.is_file() {
             return Ok(Some(Namesake {
-                path,
+                folder: file.folder,
+                file: way,
                 number: FileNumber::of(&found),
                 stamp: stamp_of(&found),
                 is_in_place,
@@ -218,7 +258,7 @@ impl<'a, R: Files + Clock + AllocGlobal + Clone + Drop> MaildirFolders<'a, R> {
             }));
         }
         if is_in_place {
-            return Err(self.system.refusals.refuse(path.as_str(), NOT_REGULAR));
+            return Err(folder.refuse_irregular(&way));
         }
         Ok(None)
     }
@@ -239,7 +279,9 @@ impl<'a, R: Files + Clock + AllocGlobal + Clone + Drop> MaildirFolders<'a, R> {
 
     /// A file that is read piece by piece.
     fn reader(&self, file: &Namesake) -> io::Result<BufReader<Noted<'a, R::File>>> {
-        let opened = open_regular(self.system, file.path.as_str())?;
+        let opened = self
+            .folder(file.folder)?
+            .open_file(&file.file, file.number)?;
         BufReader::with_capacity(self.system.alloc(), PIECE, opened)
     }
 
@@ -247,13 +289,16 @@ impl<'a, R: Files + Clock + AllocGlobal + Clone + Drop> MaildirFolders<'a, R> {
     fn compare(&self, listed: &Namesake, others: &mut [Namesake]) -> io::Result<()> {
         for other in others {
             if other.number != listed.number {
-                other.is_copy = have_same_octets(
-                    &mut self.reader(listed)?,
-                    &mut self.reader(other)?,
-                )?;
+                let mut own = self.reader(other)?;
+                other.note_copy(&mut own, &mut self.reader(listed)?)?;
             }
         }
         Ok(())
+    }
+
+    /// Removes a file that was looked at. NotFound if it isn't where it was seen.
+    fn remove_file(&self, file: &Namesake) -> io::Result<()> {
+        self.folder(file.folder)?.remove(&file.file, file.number)
     }
 
     /// Removes a listed file, and before it those that go with it, from where they were seen. NotFound if one
@@ -263,33 +308,28 @@ impl<'a, R: Files + Clock + AllocGlobal + Clone + Drop> MaildirFolders<'a, R> {
         seen: &SeenFiles,
         listed: &ListedFile,
     ) -> io::Result<Option<TwoMessages>> {
-        let alloc = self.system.alloc();
         let mut others = self.namesakes(seen, listed)?;
         let Some(place) = listed_place(others.as_slice(), listed.stamp) else {
             return match others.pop() {
-                Some(other) => {
-                    let listed = self.path_of(listed.folder, listed.name.as_str())?;
-                    Ok(Some(TwoMessages {
-                        listed,
-                        other: other.path,
-                    }))
-                }
+                Some(other) => Ok(Some(TwoMessages {
+                    listed: self.file(listed.folder, listed.name.as_str())?.into_path(),
+                    other: other.file.into_path(),
+                })),
                 None => Ok(None),
             };
         };
         let listed = others.swap_remove(place);
         self.compare(&listed, others.as_mut_slice())?;
-        match removed_with(listed.number, others.as_slice()) {
-            Ok(removed) => {
-                for file in removed {
-                    self.system.unlink(file.path.as_str())?;
+        match removal_of(listed, others)? {
+            Removal::Of(files) => {
+                for file in files {
+                    self.remove_file(&file)?;
                 }
-                self.system.unlink(listed.path.as_str())?;
                 Ok(None)
             }
-            Err(other) => Ok(Some(TwoMessages {
-                other: String::from_str(alloc, other.path.as_str())?,
-                listed: listed.path,
+            Removal::RefusedFor(listed, other) => Ok(Some(TwoMessages {
+                listed: listed.file.into_path(),
+                other: other.file.into_path(),
             })),
         }
     }
@@ -308,8 +348,7 @@ impl<'a, R: Files + Clock + AllocGlobal + Clone + Drop> MaildirFolders<'a, R> {
             }
             seen.renew(self.list()?);
         }
-        let path = self.path_of(listed.folder, listed.name.as_str())?;
-        Err(self.system.refusals.refuse(path.as_str(), BUSY))
+        Err(self.busy(listed.folder, listed.name.as_str()))
     }
 
     /// The size of a file as a message; the file is read in pieces. None if it is gone.

@@ -1,5 +1,10 @@
 //! The folders and files of a Maildir, and the unique-id for a file's name.
-ghost use Rattle.std.specs.{Prelude.{◌≡◌, true, length, IsTrue, IfOk}, List.list_all, String.string_bytes};
+ghost use Rattle.std.specs.{
+  Duration.as_nanos,
+  Prelude.{◌≡◌, ◌/◌, ◌%◌, true, length, IsTrue, IfOk},
+  List.list_all,
+  String.string_bytes,
+};
 ghost use Rattle.mail_terms.specs.{MaildirName.base as base_of, UniqueId.{is_legal_id, is_id_byte}};
 ghost use Rattle.folder_drop.specs.MaildirNames.{folder_name, id_of, IsIdKey};
 ghost use Rattle.hex.specs.Hex.{encode_lower};
@@ -9,6 +14,7 @@ use mail_terms::base;
 use pop3_wire::is_legal_id;
 use sha2::{Digest, Sha256};
 use std::alloc::{AllocError, Global};
+use std::time::Duration;
 
 /// How many characters a digest has in hexadecimal.
 const DIGEST_LENGTH: usize = 64;
@@ -38,6 +44,23 @@ pub struct Stamp {
     pub length: u64,
     pub seconds: u64,
     pub nanoseconds: u32,
+}
+
+impl Stamp {
+    /// That of a file of this length, which was last changed when so much time had passed since 1970.
+    pub fn at(length: u64, passed: Duration) -> Stamp
+        ensures { result ≡ record {
+          length = length;
+          seconds = as_nanos passed / 1_000_000_000;
+          nanoseconds = as_nanos passed % 1_000_000_000;
+        } }
+    {
+        Stamp {
+            length,
+            seconds: passed.as_secs(),
+            nanoseconds: passed.subsec_nanos(),
+        }
+    }
 }
 
 /// The place of a file in a Maildir.

@@ -1,15 +1,20 @@
 //! Which files are removed with a message.
 ghost use Rattle.std.specs.{
-  Prelude.{◌≡◌, ◌≢◌, ◌<◌, length, true, false, IfOk, IfErr, IfSome, IfNone},
-  List.{All, Contains, HoldsAt},
+  Prelude.{◌≡◌, ◌≢◌, ◌<◌, length, true, false, IfOk, IfSome, IfNone, OnOk},
+  List.{All, HoldsAt},
 };
 ghost use Rattle.folder_drop.specs.{
   declared.removal.Namesake.Namesake,
-  Removal.{GoesWith, HasStamp, IsInPlace, IsListedAt, IsOtherFile, NoneIsInPlace, NoneIsListed},
+  Removal.{GoesWith, HasStamp, IsInPlace, IsListedAt, IsOtherFile, IsRemoval, NoneIsInPlace, NoneIsListed},
+  SameOctets.TellsSame,
 };
 
-use crate::maildir_names::Stamp;
+use crate::maildir_names::{Folder, Stamp};
+use crate::open_folder::FileWay;
+use crate::same_octets::have_same_octets;
+use std::alloc::AllocError;
 use std::fs::Metadata;
+use std::io::{self, BufRead, ErrorKind};
 use std::os::unix::fs::MetadataExt;
 
 /// Which file it is: its device, and its number there. All names of a file have the same.
@@ -27,12 +32,21 @@ impl FileNumber {
             inode: metadata.ino(),
         }
     }
+
+    /// NotFound if the system reports this of something else than the regular file of this number.
+    pub fn check(self, metadata: &Metadata) -> io::Result<()> {
+        if metadata.is_file() && FileNumber::of(metadata) == self {
+            return Ok(());
+        }
+        Err(io::Error::from(ErrorKind::NotFound))
+    }
 }
 
 /// A regular file whose name has the base of a message that is to be removed.
 #[derive(Drop)]
 pub struct Namesake {
-    pub path: String,
+    pub folder: Folder,
+    pub file: FileWay,
     pub number: FileNumber,
     pub stamp: Stamp,
     /// Whether it is where the message was listed.
@@ -48,7 +62,30 @@ pub struct TwoMessages {
     pub other: String,
 }
 
+/// What is removed with a message.
+#[derive(Drop)]
+pub enum Removal {
+    /// These files, in this order.
+    Of(Vec<Namesake>),
+    /// None, since the second file may be another message than the first one, which was listed.
+    RefusedFor(Namesake, Namesake),
+}
+
 impl Namesake {
+    /// Notes whether it is a copy of the listed file. Both are read.
+    pub fn note_copy<F: BufRead, G: BufRead>(
+        &mut self,
+        own: &mut F,
+        listed: &mut G,
+    ) -> io::Result<()>
+        ensures copy { OnOk result
+            (TellsSame (F.Read.remaining own.old) (G.Read.remaining listed.old) self.new.is_copy) }
+        ensures others { self.new ≡ record self.old { is_copy = self.new.is_copy } }
+    {
+        self.is_copy = have_same_octets(own, listed)?;
+        Ok(())
+    }
+
     /// Whether it goes with the listed file, which has this number.
     fn goes_with(&self, listed: FileNumber) -> bool
         ensures goes { result ≡ true → GoesWith listed self.now }
@@ -96,16 +133,33 @@ pub fn listed_place(files: &[Namesake], stamp: Stamp) -> Option<usize>
     }
 }
 
-/// The files that are removed with the listed one, which has this number: all the others with its base; or, if
-/// one of them may be another message, that one, and none is removed.
-pub fn removed_with(listed: FileNumber, files: &[Namesake]) -> Result<&[Namesake], &Namesake>
-    ensures ok { IfOk result (λ removed. (removed.now ≡ files.now) × All (GoesWith listed) files.now) }
-    ensures err { IfErr result (λ other. Contains files.now other.now × IsOtherFile listed other.now) }
+/// The place of a file that may be another message than the listed one, which has this number.
+fn place_of_other(listed: FileNumber, files: &[Namesake]) -> Option<usize>
+    ensures found { IfSome result (λ i. (i < length files.now) × HoldsAt (IsOtherFile listed) files.now i) }
+    ensures none { IfNone result (All (GoesWith listed) files.now) }
 {
-    for file in files {
+    for (place, file) in files.iter().enumerate() {
         if !file.goes_with(listed) {
-            return Err(file);
+            return Some(place);
         }
     }
-    Ok(files)
+    None
+}
+
+/// What is removed with a message, if these are the others with its base: all, the listed one last, so that it stays
+/// if one of them can't be removed; or none, if one may be another message.
+pub fn removal_of(listed: Namesake, others: Vec<Namesake>) -> Result<Removal, AllocError>
+    ensures { IfOk result (IsRemoval listed others.items) }
+{
+    let mut others = others;
+    match place_of_other(listed.number, others.as_slice()) {
+        Some(place) => {
+            let other = others.swap_remove(place);
+            Ok(Removal::RefusedFor(listed, other))
+        }
+        None => {
+            others.push(listed)?;
+            Ok(Removal::Of(others))
+        }
+    }
 }

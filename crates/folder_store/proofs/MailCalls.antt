@@ -1,14 +1,15 @@
 -- What telling the names of the folders, and writing and settling a file, does to the Maildir of the folders.
 use Rattle.std.{
   proofs.Common.{◌≡◌, ◌+◌, inl, inr, ⊎_elim, ℕ, List, [], ◌∷◌, refl, subst, arith, ◌⊎◌, true, sym, ap, ◌∙◌, Bool, false, not, ◌++◌, map},
-  proofs.Common.{get_or, Contains, Option, Result, Ok, Err, IsErrAnd, IsPermutation, IsTrue, IfErr, IfOk, String, Global, Vec, filter, ◌≢◌},
+  proofs.Common.{get_or, Contains, Option, Result, Ok, Err, IsErrAnd, IsPermutation, IsTrue, IfErr, IfOk, String, Global, Vec, filter},
   proofs.Common.{string_bytes, if◌then◌else◌, suc, Some, append_assoc, append-nil, None, is_some, IfSome, true≢false},
   proofs.Math.Bool.{or-false, or-true},
   proofs.lemmas.{Bool.{cases_Bool, cond_both, or_left, or_right}, Simd.map-map, Option.same_Some},
-  proofs.lemmas.List.{Elements.{recursion_from_All, All-weaker, filter-append, filter_passes}, map-append, get_or-map, length-map},
+  proofs.lemmas.List.{Elements.{All-filter, recursion_from_All, All-weaker, filter-append, filter_passes}},
+  proofs.lemmas.List.{map-append, get_or-map, length-map},
   proofs.lemmas.List.Sorted.{Contains-permutation, IsPermutation-append, IsPermutation-sym, IsPermutation-map, IsPermutation-trans},
   proofs.lemmas.List.Sorted.IsPermutation-filter_both,
-  specs.{Borrow.Bor, List.{AllByRecursion, AllZip, filter}},
+  specs.{Borrow.Bor, List.{AllZip, filter}},
 }
 use Rattle.mail_store.{
   specs.Maildir.{AfterFlushing, AfterTaking, AreTheirs, Checks, Draft, File, Folders, IsWithout, Lists, Maildir, MayBeNamed, MayHave, mail},
@@ -17,16 +18,17 @@ use Rattle.mail_store.{
   specs.declared.{maildir.disk.Folder.{Folder, TheVariants.{New, Cur}}, fault.StoreFault.{StoreFault, TheVariants.{Missing, Refused}}},
   proofs.MaildirLemmas.{named_same, reached_same, reaches_same, without_more, without_on, sought_bases, stem_base},
 }
-use Rattle.mail_terms.{specs.{MaildirName.base, FailureCount.refuses}, proofs.ErrLemmas.is_err}
+use Rattle.mail_terms.{specs.{MaildirName.base, FailureCount.refuses, UniqueId.has_id}, proofs.{ErrLemmas.is_err, ListLemmas.all_append}}
 use Rattle.folder_store.{
   specs.MailFolders.{KeepsFile, MailFile, Directories, files_at, is_left, is_taken, mail_at, MovesFile, Moved, touches, touches_new, is_in},
-  specs.MailFolders.{touches_cur, name_at, entries_in, draft_begun, odd_names_in, maildir_in},
+  specs.MailFolders.{RestsFile, touches_cur, name_at, entries_in, draft_begun, maildir_in, odd_in_both, rests_in},
   specs.{FileFolder.MadeFile, declared.mail_folders.{FoundNames.FoundNames, Sought.{Sought, TheVariants.{All, Stems}}}},
-  specs.MailCalls.{BringsFiles, ChecksIn, FlushesFiles, FlushesNamesIn, IfMissing, IsUnknown, Lacks, LacksOne, Leads, Learns, ListedBoth},
+  specs.MailCalls.{BringsFiles, ChecksIn, FlushesFiles, FlushesNamesIn, IfMissing, Lacks, LacksOne, Leads, Learns, ListedBoth},
   specs.MailCalls.{ListsIn, MakesDraft, PutsDraft, PutsDurably, PutsIntoNew, SameFiles, StandsIn, TellsOfBoth, TellsFiles, TellsOne, Then},
-  specs.MailCalls.{TellsRest, ToldBoth, entry_flushed_by, after_listing, named_by, names_flushed_in, put_as, without_taken},
+  specs.MailCalls.{AllSought, TellsRest, ToldBoth, entry_flushed_by, after_listing, file_names, named_by},
+  specs.MailCalls.{names_flushed_in, put_as, without_taken},
   proofs.MailMoves.{SomeIs, both_named, each_by, files_moved, files_reached, flush_keeps, leads_same, mapped_leads, moved_same, rests_new},
-  proofs.MailMoves.{moved_leads, moved_maildir, moved_rests, rests_on_at, same_rests_at, some_kept, some_map, there_some},
+  proofs.MailMoves.{moved_leads, moved_maildir, moved_rests, same_rests_at, some_kept, some_map, there_some},
 }
 
 -- ---- what is known of the folders once files that readers took away are known no longer
@@ -36,11 +38,11 @@ left_twice [] = refl
 left_twice (s ∷ ss) = cond_both (is_left s) (s ∷ filter is_left ss) (filter is_left ss) (λ (ts : List MailFile). filter is_left ts ≡ ts)
     (λ here. rw here (ap (λ (ts : List MailFile). s ∷ ts) (left_twice ss))) (λ _. left_twice ss)
 
-pub listed_is : (folder : Folder) (odd : List (List ℕ)) (a : Directories)
-    → ((after_listing folder odd a).entries ≡ filter is_left a.entries) × ((after_listing folder odd a).there ≡ a.there)
-    × ((after_listing folder odd a).taken ≡ (without_taken a).taken)
-listed_is New odd a = (refl, refl, refl)
-listed_is Cur odd a = (refl, refl, refl)
+pub listed_is : (folder : Folder) (seen a : Directories)
+    → ((after_listing folder seen a).entries ≡ filter is_left a.entries) × ((after_listing folder seen a).there ≡ a.there)
+    × ((after_listing folder seen a).taken ≡ (without_taken a).taken)
+listed_is New seen a = (refl, refl, refl)
+listed_is Cur seen a = (refl, refl, refl)
 
 -- what is left once those that readers took away were taken from the others
 left_without : (ss : List MailFile) → IsWithout (files_at ss) (files_at (filter is_taken ss)) (files_at (filter is_left ss))
@@ -48,15 +50,27 @@ left_without [] = tt
 left_without (s ∷ ss) = ⊎_elim (λ gone. rw gone ([], files_at ss, reached_same (files_at (s ∷ ss)), left_without ss))
     (λ here. rw here (without_more _ _ _ (mail_at s) (mail_at s) (reaches_same (mail_at s)) (left_without ss))) (cases_Bool s.is_gone)
 
-listed_learns : (folder : Folder) (odd : List (List ℕ)) (a : Directories) → Learns a (after_listing folder odd a)
-listed_learns folder odd a =
-    let is = listed_is folder odd a in
-    record { there = is.1; gone = files_at (filter is_taken a.entries); taken = is.2; left = rw is.0 (left_without a.entries) }
+-- only folders that are there are listed
+seen_there : (folder : Folder) (seen a : Directories) → is_there a.there folder ≡ true → a.there.new ≡ false → a.there.cur ≡ false
+    → odd_in_both (after_listing folder seen a) ≡ odd_in_both a
+seen_there New seen a there new cur = absurd (true≢false (sym there ∙ new))
+seen_there Cur seen a there new cur = absurd (true≢false (sym there ∙ cur))
+
+listed_learns : (folder : Folder) (seen a : Directories) → is_there a.there folder ≡ true → Learns a (after_listing folder seen a)
+listed_learns folder seen a there =
+    let is = listed_is folder seen a in record {
+      there = is.1;
+      gone = files_at (filter is_taken a.entries);
+      odd = seen_there folder seen a there;
+      taken = is.2;
+      left = rw is.0 (left_without a.entries);
+    }
 
 pub leads_learns : (a b : Directories) → Leads a b → Learns a b
 leads_learns a b l = record {
   there = l.there;
   gone = [];
+  odd = λ new cur. l.odd;
   taken = l.taken ∙ sym (append-nil a.taken);
   left = files_reached a.entries b.entries l.keeps;
 }
@@ -65,6 +79,8 @@ pub learns_on : (a b c : Directories) → Learns a b → Learns b c → Learns a
 learns_on a b c first next = record {
   there = next.there ∙ first.there;
   gone = first.gone ++ next.gone;
+  odd = λ new cur. next.odd (ap (λ (f : Folders). f.new) first.there ∙ new) (ap (λ (f : Folders). f.cur) first.there ∙ cur)
+      ∙ first.odd new cur;
   taken = next.taken ∙ ap (λ (fs : List File). fs ++ next.gone) first.taken ∙ append_assoc a.taken first.gone next.gone;
   left = without_on first.gone next.gone (files_at a.entries) (files_at b.entries) (files_at c.entries) first.left next.left;
 }
@@ -93,9 +109,9 @@ flushes_leads folder a b (Err fault) (m, v, inr (refused, e)) = rw e (named_lead
 
 pub lists_learns : {A B : Type 0} (folder : Folder) (sought : Sought) (a b : Directories)
     (r : Result (Vec (String A) B) StoreFault) → Then (ListsIn folder sought r) a b → Learns a b
-lists_learns folder sought a b (Ok names) (m, v, (there, told, e)) =
-    subst (Learns a) (sym e) (learns_on a m (after_listing folder (odd_names_in folder b) m)
-    (leads_learns a m (moved_leads a m v)) (listed_learns folder (odd_names_in folder b) m))
+lists_learns folder sought a b (Ok names) (m, v, (there, told, e, shows)) =
+    subst (Learns a) (sym e) (learns_on a m (after_listing folder b m) (leads_learns a m (moved_leads a m v))
+    (listed_learns folder b m there))
 lists_learns folder sought a b (Err fault) (m, v, lacks) = leads_learns a b (moved_same a m b v lacks.0)
 
 -- a call that told nothing of the files came after others
@@ -161,16 +177,36 @@ pub looked : {A B : Type 0} (sought : Sought) (b0 b1 b2 b3 : Directories) (new c
     → Then (ListsIn New sought (Ok new)) b0 b1 → Then (ListsIn Cur sought (Ok cur)) b1 b2
     → Then (TellsRest New (Ok rests)) b2 b3 → IsTrue rests → ListedBoth sought (new, cur) b3
 looked sought b0 b1 b2 b3 new cur rests (m1, v1, s1) (m2, v2, s2) (m3, v3, s3) rested = (
-  record m2 { cur_rests = true; odd_cur = b2.odd_cur },
-  (rw still.there s1.0, rw (same_new, v2.odd_new) s1.1, refl),
-  (s2.0, s2.1, refl),
-  rw s3.0 last,
+  moment,
+  (rw still.there s1.0, rw (same_new, v2.odd_new) s1.1, refl, rw (same_new, v2.odd_new) s1.3),
+  (s2.0, s2.1, refl, s2.3),
+  rw s3.0 others,
 )
   where
-    last : Moved (after_listing Cur b2.odd_cur m2) m3
+    -- what can't be opened may have come to `new` and gone since
+    moment : Directories
+    moment = record m2 { cur_rests = true; odd_cur = b2.odd_cur; dirs_cur = b2.dirs_cur; closed_new = m1.closed_new }
+
+    last : Moved (after_listing Cur b2 m2) m3
     last = subst (λ (d : Directories). Moved d m3) s2.2 v3
 
-    still : Moved (after_listing New b1.odd_new m1) m2
+    rests_too : (folder : Folder) → rests_in folder m3 ≡ true
+        → (rests_in folder (without_taken moment) ≡ true) × AllZip (RestsFile folder) (without_taken moment).entries m3.entries
+    rests_too New quiet = last.rests New quiet
+    rests_too Cur quiet = last.rests Cur quiet
+
+    others : Moved (without_taken moment) m3
+    others = record {
+      there = last.there;
+      taken = last.taken;
+      odd_new = last.odd_new;
+      odd_cur = last.odd_cur;
+      dirs_cur = last.dirs_cur;
+      moves = last.moves;
+      rests = rests_too;
+    }
+
+    still : Moved (after_listing New b1 m1) m2
     still = subst (λ (d : Directories). Moved d m2) s1.2 v2
 
     -- `new` rested from its own listing to that of `cur`
@@ -184,16 +220,22 @@ names_kept a b = each_by KeepsFile (λ a b. names_of (files_at b) ≡ names_of (
 
 -- a flush of names tells nothing of what can't be opened
 flush_odd : {T : Type 0} (folder : Folder) (done : T) (a b : Directories) → Then (FlushesNamesIn folder (Ok done)) a b
-    → (b.odd_new ≡ a.odd_new) × (b.odd_cur ≡ a.odd_cur)
-flush_odd folder done a b (m, v, e) = rw e (v.odd_new, v.odd_cur)
+    → (b.odd_new ≡ a.odd_new) × (b.odd_cur ≡ a.odd_cur) × (b.dirs_cur ≡ a.dirs_cur)
+flush_odd folder done a b (m, v, e) = rw e (v.odd_new, v.odd_cur, v.dirs_cur)
+
+-- those that were seen are sought
+all_sought : {A : Type 0} (stems : List (String A)) (files closed odd : List (List ℕ))
+    → odd ≡ file_names files (filter (is_sought stems) closed) → AllSought stems odd
+all_sought stems files closed odd is = rw is (recursion_from_All _ _ (All-filter (λ name. not (has_id files name))
+    (λ name. is_sought stems name ≡ true) (filter (is_sought stems) closed) (filter_passes (is_sought stems) closed)))
 
 -- and then the names of both folders were flushed, and it was told which are those of files
 module _ {A B T : Type 0} (stems : Bor (List (String Global))) (o a b c d : Directories) (in_new in_cur : Vec (String A) B)
     (done done' : T) (listed : ListedBoth (Stems stems) (in_new, in_cur) a) (new : Then (FlushesNamesIn New (Ok done)) a b)
     (cur : Then (FlushesNamesIn Cur (Ok done')) b c) (before : Learns o c) where
   told : (found : FoundNames) → Then (TellsFiles (map string_bytes in_new.items) (map string_bytes in_cur.items) (Ok found)) c d
-      → ToldBoth stems.now found.files.items d
-  told found (m, v, (e, (are, _, _))) =
+      → ToldBoth stems.now found.files.items found.odd.items d
+  told found (m, v, (e, (are, odd_are))) =
       let l = listed.0 in
       let first = flushes_leads New a b (Ok done) new in
       let next = flushes_leads Cur b c (Ok done') cur in
@@ -206,20 +248,27 @@ module _ {A B T : Type 0} (stems : Bor (List (String Global))) (o a b c d : Dire
       let by_cur = flush_odd Cur done' b c cur in
       let odd_new : m.odd_new ≡ l.odd_new = v.odd_new ∙ by_cur.0 ∙ by_new.0 ∙ listed.3.odd_new in
       let odd_cur : m.odd_cur ≡ l.odd_cur = v.odd_cur ∙ by_cur.1 ∙ by_new.1 ∙ listed.3.odd_cur in
+      let dirs_cur : m.dirs_cur ≡ l.dirs_cur = v.dirs_cur ∙ by_cur.2 ∙ by_new.2 ∙ listed.3.dirs_cur in
+      let odd : odd_in_both d ≡ odd_in_both l = rw e (rw (odd_new, odd_cur) refl) in
       let both = told_both stems.now l.entries _ _ listed.1.1 listed.2.1 in record {
         new_is_there = rw there listed.1.0;
         cur_is_there = rw there listed.2.0;
         lists = (
           both.0,
           rw same both.1,
-          sym (map-map base string_bytes found.files.items) ∙ ap (map base) (rw (odd_new, odd_cur) at are) ∙ both.2,
+          sym (map-map base string_bytes found.files.items) ∙ ap (map base) (rw (odd_new, odd_cur, dirs_cur) at are) ∙ both.2,
         );
         named = rw (files, cur.2) (both_named new.0.entries cur.0.entries (rw new.2 at cur.1.moves));
+        odd_are = subst (λ (there : List (List ℕ)). IsPermutation there (map string_bytes found.odd.items)) (sym odd)
+            (subst (IsPermutation (odd_in_both l)) (sym (rw (odd_new, odd_cur) at odd_are))
+            (IsPermutation-append _ _ _ _ listed.1.3.1 listed.2.3.1));
+        odd_sought = subst (AllSought stems.now) (sym odd) (all_append _ l.odd_new l.odd_cur
+            (all_sought stems.now _ _ l.odd_new listed.1.3.0) (all_sought stems.now _ _ l.odd_cur listed.2.3.0));
       }
 
   pub told_files : (r : Result FoundNames StoreFault) → IfErr r (λ fault. fault ≡ Refused)
       → Then (TellsFiles (map string_bytes in_new.items) (map string_bytes in_cur.items) r) c d
-      → TellsOfBoth o r d (λ found. ToldBoth stems.now found.files.items)
+      → TellsOfBoth o r d (λ found. ToldBoth stems.now found.files.items found.odd.items)
   told_files (Ok found) refused (m, v, t) = (leads_after o c d before (moved_same c m d v t.0), told found (m, v, t), tt)
   told_files (Err fault) refused (m, v, t) =
       (leads_after o c d before (moved_same c m d v t.0), tt, λ missing. let is : fault ≡ Refused = refused in absurd cc)
@@ -276,11 +325,11 @@ theirs {A} names files each = λ k d inside. each (base (string_bytes (get_or na
 
 pub told_one : {A B T : Type 0} (folder : Folder) (b0 b1 b2 : Directories) (names : Vec (String A) B) (done : T)
     → Then (ListsIn folder All (Ok names)) b0 b1 → Then (FlushesNamesIn folder (Ok done)) b1 b2 → TellsOne b0 folder (Ok names) b2
-told_one {A} folder b0 b1 b2 names done (m1, v1, (there, (order, same, are), e1)) (m2, v2, e2) = (
-  leads_after b0 b1 b2 (lists_learns folder All b0 b1 (Ok names) (m1, v1, (there, (order, same, are), e1)))
+told_one {A} folder b0 b1 b2 names done (m1, v1, (there, (order, same, are), e1, shows)) (m2, v2, e2) = (
+  leads_after b0 b1 b2 (lists_learns folder All b0 b1 (Ok names) (m1, v1, (there, (order, same, are), e1, shows)))
       (flushes_leads folder b1 b2 (Ok done) (m2, v2, e2)),
   (
-    rw (e2, v2.there, ap (λ (d : Directories). d.there) e1, (listed_is folder (odd_names_in folder b1) m1).1) there,
+    rw (e2, v2.there, ap (λ (d : Directories). d.there) e1, (listed_is folder b1 m1).1) there,
     theirs names.items (files_at b2.entries) (λ name c. some_named b2.entries name (stay name c)),
   ),
   tt,
@@ -294,7 +343,7 @@ told_one {A} folder b0 b1 b2 names done (m1, v1, (there, (order, same, are), e1)
         (IsPermutation-sym after_listing (bases_told names.items) (told_part (entries_in folder m1.entries) names.items
         (subst (IsPermutation (map name_at (entries_in folder m1.entries))) (sym are) same))) c) in
         let still = some_kept {Will = Touch folder name} (filter is_left m1.entries) m2.entries
-        (rw (ap (λ (d : Directories). d.entries) e1, (listed_is folder (odd_names_in folder b1) m1).0) at v2.moves) touched
+        (rw (ap (λ (d : Directories). d.entries) e1, (listed_is folder b1 m1).0) at v2.moves) touched
         (λ s t m is. (m.keeps.title ∙ is.0, still_touches folder s t m is.1)) in
         rw e2 (some_map _ (named_by folder) m2.entries still (λ s is. named_touch folder s name is.0 is.1))
 
@@ -305,13 +354,17 @@ IsCountAfter r n m = m ≡ (if refuses is_refusal r then n + 1 else n)
 
 -- the same with the files that are left
 abbrev left_in : Directories → Directories → Option Draft → List (List ℕ) → ℕ → Maildir
-left_in a b begun odd n = record (maildir_in a begun odd n) { files = files_at b.entries; taken = b.taken }
+left_in a b begun odd n = record (maildir_in a begun odd n) {
+  files = files_at b.entries;
+  taken = b.taken;
+  odd = odd_in_both b;
+}
 
 -- this holds of what readers left
 seen : {Does : Maildir → Type 0} (a b : Directories) (begun : Option Draft) (was odd : List (List ℕ)) (n : ℕ) → Learns a b
     → (a.there.new ≡ false → odd ≡ was) → Does (left_in a b begun odd n) → AfterTaking (maildir_in a begun was n) Does
 seen a b begun was odd n l same does =
-    (left_in a b begun odd n, record { gone = l.gone; files = l.left; odd = same; is = rw l.taken refl }, does)
+    (left_in a b begun odd n, record { gone = l.gone; files = l.left; odd = l.odd; told = same; is = rw l.taken refl }, does)
 
 left_as : (a b : Directories) (begun : Option Draft) (odd : List (List ℕ)) (m k n : ℕ) → Learns a b → m ≡ k
     → maildir_in b begun odd m ≡ record (left_in a b begun odd n) { failures = k }
@@ -323,7 +376,7 @@ one_lacks there Cur e = inr e
 
 -- what was told
 pub told_names : {C : Type 0} (stems : List (String C)) (a b : Directories) (begun : Option Draft) (was : List (List ℕ)) (n m : ℕ)
-    (found : FoundNames) → TellsOfBoth {T = FoundNames} a (Ok found) b (λ found. ToldBoth stems found.files.items) → m ≡ n
+    (found : FoundNames) → TellsOfBoth {T = FoundNames} a (Ok found) b (λ found. ToldBoth stems found.files.items found.odd.items) → m ≡ n
     → AfterTaking (maildir_in a begun was n)
     (λ left. ListsAmong left stems (Ok found.files) (maildir_in b begun (map string_bytes found.odd.items) m))
 told_names stems a b begun was n m found (l, told, _) k =
@@ -335,6 +388,8 @@ told_names stems a b begun was n m found (l, told, _) k =
       told.lists,
       told.named,
       left_as a b begun odd m n n l k,
+      told.odd_are,
+      told.odd_sought,
     )
 
 pub none_told : {C : Type 0} {odd : List (List ℕ)} (stems : List (String C)) (a b : Directories) (begun : Option Draft) (n m : ℕ)
@@ -371,13 +426,6 @@ checked a b folder begun odd n m (Err _) t device k = absurd (⊎_elim (λ e. cc
 
 -- ---- files that come to the folders, while others are moved
 
--- no file of `new` has the name, if none of either folder has its base
-free_from : (ss : List MailFile) (name : List ℕ) → (Contains (names_of (files_at ss)) (base name) → ⊥)
-    → AllByRecursion (λ (s : MailFile). s.is_new ≡ true → s.name ≢ name) ss
-free_from [] name unknown = tt
-free_from (s ∷ ss) name unknown =
-    (λ new same. unknown (0, omega arith, ap base same), free_from ss name (λ c. unknown (suc c.0, omega (arith, c.1), c.2)))
-
 -- the last of some files that were moved, and those before it
 abbrev Splits : List MailFile → MailFile → List MailFile → Type 0
 Splits ss s ts = (front : List MailFile) × (t : MailFile) × (ts ≡ front ++ t ∷ []) × AllZip MovesFile ss front × MovesFile s t
@@ -401,21 +449,22 @@ split_last (x ∷ ss) s (t ∷ ts) h =
     (t ∷ r.0, r.1, ap (λ (us : List MailFile). t ∷ us) r.2, (h.0, r.3), r.4)
 
 -- a file that was flushed was put, once others were moved
-module _ (b0 b1 b2 : Directories) (content name : List ℕ) (file : MadeFile)
-    (filled : file ≡ record { content = content; is_flushed = true }) (r : SameFiles b0 b1) (p : Then (PutsIntoNew file name) b1 b2) where
+module _ (b0 b1 : Directories) (content name : List ℕ) (file : MadeFile)
+    (filled : file ≡ record { content = content; is_flushed = true }) (p : Then (PutsIntoNew file name) b0 b1) where
   before : SameFiles b0 p.0
-  before = rests_on_at b0 b1 p.0 r (moved_rests b1 p.0 p.1)
+  before = moved_rests b0 p.0 p.1
 
-  put_is : IsUnknown name b0 → b2 ≡ record p.0 { entries = p.0.entries ++ put_as name file ∷ []; new_rests = false }
-  put_is unknown = p.2 (free_from p.0.entries name (rw before.files unknown))
+  put_is : b1 ≡ record p.0 { entries = p.0.entries ++ put_as name file ∷ []; new_rests = false }
+  put_is = p.2.1
 
   -- the names weren't flushed
-  pub put_unnamed : StandsIn b0 content name b2
-  put_unnamed = λ unknown. (
+  pub put_unnamed : StandsIn b0 content name b1
+  put_unnamed = (
     false,
-    rw (put_is unknown) (record {
+    rw put_is (record {
       there = before.there;
       taken = before.taken;
+      odd = before.odd;
       risen = files_at p.0.entries;
       reached = rw before.files (named_same (files_at b0.entries));
       files = map-append mail_at p.0.entries (put_as name file ∷ [])
@@ -428,18 +477,18 @@ module _ (b0 b1 b2 : Directories) (content name : List ℕ) (file : MadeFile)
   mail_is t title same named with_flushed = rw (title, same, named, with_flushed) refl
 
   -- or were
-  put_named : (m b3 : Directories) → Moved b2 m → b3 ≡ names_flushed_in New m → IsUnknown name b0
-      → BringsFiles b0 (mail name content ∷ []) b3
-  put_named m b3 v e unknown =
-      let last = split_last p.0.entries (put_as name file) m.entries (rw (put_is unknown) at v.moves) in
+  put_named : (m b2 : Directories) → Moved b1 m → b2 ≡ names_flushed_in New m → BringsFiles b0 (mail name content ∷ []) b2
+  put_named m b2 v e =
+      let last = split_last p.0.entries (put_as name file) m.entries (rw put_is at v.moves) in
       let t = last.1 in
       let moved = last.4 in
       let is = mail_is (named_by New t) moved.keeps.title (moved.keeps.content ∙ ap (λ (x : MadeFile). x.content) filled)
       (or_right t.is_named (touches_new t) (moved.new refl)) (moved.flushed ∙ ap (λ (x : MadeFile). x.is_flushed) filled) in
       let risen = files_at (map (named_by New) last.0) in
       rw e (record {
-        there = v.there ∙ ap (λ (d : Directories). d.there) (put_is unknown) ∙ before.there;
-        taken = v.taken ∙ ap (λ (d : Directories). d.taken) (put_is unknown) ∙ before.taken;
+        there = v.there ∙ ap (λ (d : Directories). d.there) put_is ∙ before.there;
+        taken = v.taken ∙ ap (λ (d : Directories). d.taken) put_is ∙ before.taken;
+        odd = rw (v.odd_new, v.odd_cur) (ap odd_in_both put_is ∙ before.odd);
         risen = risen;
         reached = subst (λ (fs : List File). AllZip MayBeNamed fs risen) (files_moved p.0.entries last.0 last.3
             ∙ before.files) (named_files last.0);
@@ -448,28 +497,30 @@ module _ (b0 b1 b2 : Directories) (content name : List ℕ) (file : MadeFile)
             ∙ ap (λ (x : File). risen ++ x ∷ []) is;
       })
 
-  pub put_all : (b3 : Directories) (r : Result (Unit {0}) StoreFault) → Then (FlushesNamesIn New r) b2 b3 → PutsDurably b0 content name r b3
+  pub put_all : (b2 : Directories) (r : Result (Unit {0}) StoreFault) → Then (FlushesNamesIn New r) b1 b2 → PutsDurably b0 content name r b2
   unfolding put_unnamed
-  put_all b3 (Ok done) (m, v, e) = put_named m b3 v e
-  put_all b3 (Err fault) (m, v, inl lacks) = inr (λ unknown.
-      let stands = put_unnamed unknown in
-      let same = same_rests_at b2 m b3 v lacks.0 in (
-        stands.0,
+  put_all b2 (Ok done) (m, v, e) = put_named m b2 v e
+  put_all b2 (Err fault) (m, v, inl lacks) =
+      let same = same_rests_at b1 m b2 v lacks.0 in
+      let stands = put_unnamed.1 in
+      inr (
+        put_unnamed.0,
         record {
-          there = same.there ∙ stands.1.there;
-          taken = same.taken ∙ stands.1.taken;
-          risen = stands.1.risen;
-          reached = stands.1.reached;
-          files = same.files ∙ stands.1.files;
+          there = same.there ∙ stands.there;
+          taken = same.taken ∙ stands.taken;
+          odd = same.odd ∙ stands.odd;
+          risen = stands.risen;
+          reached = stands.reached;
+          files = same.files ∙ stands.files;
         },
-      ))
-  put_all b3 (Err fault) (m, v, inr (refused, e)) = inr (λ unknown. (true, put_named m b3 v e unknown))
+      )
+  put_all b2 (Err fault) (m, v, inr (refused, e)) = inr (true, put_named m b2 v e)
 
-pub not_put : (b0 b1 b2 : Directories) (content name : List ℕ) (file : MadeFile) (fault x : StoreFault)
-    → file ≡ record { content = content; is_flushed = true } → SameFiles b0 b1
-    → Then (PutsDraft {T = Unit {0}} file name (Err fault)) b1 b2 → PutsDurably {T = Unit {0}} b0 content name (Err x) b2
-not_put b0 b1 b2 content name file fault x filled r (m, v, inl same) = inl (rests_on_at b0 b1 b2 r (same_rests_at b1 m b2 v same))
-not_put b0 b1 b2 content name file fault x filled r (m, v, inr p) = inr (put_unnamed b0 b1 b2 content name file filled r (m, v, p))
+pub not_put : (b0 b1 : Directories) (content name : List ℕ) (file : MadeFile) (fault x : StoreFault)
+    → file ≡ record { content = content; is_flushed = true }
+    → Then (PutsDraft {T = Unit {0}} file name (Err fault)) b0 b1 → PutsDurably {T = Unit {0}} b0 content name (Err x) b1
+not_put b0 b1 content name file fault x filled (m, v, inl same) = inl (same_rests_at b0 m b1 v same)
+not_put b0 b1 content name file fault x filled (m, v, inr p) = inr (put_unnamed b0 b1 content name file filled (m, v, p))
 
 -- ---- the Maildir of the folders
 
@@ -482,7 +533,7 @@ pub begun_anew : {N : Type 0} {odd : List (List ℕ)} (made : N → MadeFile) (a
     × (maildir_in b (Some (draft_begun made (title, file))) odd n ≡ record (maildir_in a begun odd n) { begun = Some (draft name []) })
 begun_anew made a b begun title file name n same (m, v, (e, (there, empty))) =
     let h = same_rests_at a m b v e in
-    (rw (sym v.there) there, rw (h.there, h.taken, h.files, same, empty) refl)
+    (rw (sym v.there) there, rw (h.there, h.taken, h.odd, h.files, same, empty) refl)
 
 pub begin_missing : {N : Type 0} {odd : List (List ℕ)} (made : N → MadeFile) (a b : Directories) (begun : Option Draft) (n : ℕ)
     (fault : StoreFault) → fault ≡ Missing → Then (MakesDraft made (Err fault)) a b
@@ -506,17 +557,16 @@ not_added made d title file new n k f up h = ((made new).content, rw (sym (same_
 
 pub maildir_same : {odd : List (List ℕ)} (a b : Directories) (begun : Option Draft) (n : ℕ) → SameFiles a b
     → maildir_in b begun odd n ≡ maildir_in a begun odd n
-maildir_same a b begun n h = rw (h.there, h.taken, h.files) refl
+maildir_same a b begun n h = rw (h.there, h.taken, h.odd, h.files) refl
 
 pub not_settled : {odd : List (List ℕ)} (a b : Directories) (d f : Draft) (name : List ℕ) (n k : ℕ) (fault : StoreFault) → k ≡ n + 1
-    → IsUnknown name a → Some d ≡ Some f → PutsDurably {T = Unit {0}} a d.content name (Err fault) b
+    → Some d ≡ Some f → PutsDurably {T = Unit {0}} a d.content name (Err fault) b
     → (maildir_in b None odd k ≡ maildir_refused (dropped (maildir_in a (Some d) odd n)))
     ⊎ AfterFlushing (maildir_in a (Some d) odd n) (λ risen. MayHave risen (mail name f.content) (maildir_in b None odd k))
-not_settled a b d f name n k fault up unknown h (inl none) = inl (rw (none.there, none.taken, none.files, up) refl)
-not_settled a b d f name n k fault up unknown h (inr put) =
-    let came = put unknown in
+not_settled a b d f name n k fault up h (inl none) = inl (rw (none.there, none.taken, none.odd, none.files, up) refl)
+not_settled a b d f name n k fault up h (inr came) =
     let same : d.content ≡ f.content = ap (λ (x : Draft). x.content) (same_Some d f h) in
-    inr (came.1.risen, came.1.reached, (came.0, rw (came.1.there, came.1.taken, came.1.files, up, same) refl))
+    inr (came.1.risen, came.1.reached, (came.0, rw (came.1.there, came.1.taken, came.1.odd, came.1.files, up, same) refl))
 
 -- ---- what a flush of files does to the folders of a Maildir
 
@@ -528,7 +578,7 @@ module _ {A : Type 0} (stems : List (String A)) where
   pub files_flush : (a b : Directories) (begun : Option Draft) (odd : List (List ℕ)) (n : ℕ) (done : Bool)
       → Then (FlushesFiles stems (Ok done)) a b → Flushes (maildir_in a begun odd n) stems (Ok done) (maildir_in b begun odd n)
   files_flush a b begun odd n true (m, v, e) =
-      rw (e, v.there, v.taken) (rw (flushed_at m.entries, files_moved a.entries m.entries v.moves) refl)
+      rw (e, v.there, v.taken, v.odd_new, v.odd_cur) (rw (flushed_at m.entries, files_moved a.entries m.entries v.moves) refl)
   files_flush a b begun odd n false (m, v, e) = moved_maildir a m b begun n v e
 
 pub files_refused : {A : Type 0} {odd : List (List ℕ)} (stems : List (String A)) (a b : Directories) (begun : Option Draft) (n k : ℕ)

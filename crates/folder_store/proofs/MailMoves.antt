@@ -74,7 +74,12 @@ pub each_keeps : (a b : List MailFile) → AllZip MovesFile a b → AllZip Keeps
 each_keeps a b = each_by MovesFile (AllZip KeepsFile) tt (λ s t ss ts m rest. (m.keeps, rest)) a b
 
 pub moved_leads : (a b : Directories) → Moved a b → Leads a b
-moved_leads a b m = record { there = m.there; taken = m.taken; keeps = each_keeps a.entries b.entries m.moves }
+moved_leads a b m = record {
+  there = m.there;
+  taken = m.taken;
+  odd = rw (m.odd_new, m.odd_cur) refl;
+  keeps = each_keeps a.entries b.entries m.moves;
+}
 
 -- others moved files, and a call changed nothing
 pub moved_same : (a m b : Directories) → Moved a m → b ≡ m → Leads a b
@@ -88,7 +93,7 @@ pub same_keeps : (s : MailFile) → KeepsFile s s
 same_keeps s = record { title = refl; content = refl; flushed = λ h. h; named = λ h. h }
 
 pub leads_same : (a : Directories) → Leads a a
-leads_same a = record { there = refl; taken = refl; keeps = zip_same KeepsFile same_keeps a.entries }
+leads_same a = record { there = refl; taken = refl; odd = refl; keeps = zip_same KeepsFile same_keeps a.entries }
 
 -- ---- one after another
 
@@ -106,6 +111,7 @@ pub mapped_leads : (f : MailFile → MailFile) → ((s : MailFile) → KeepsFile
 mapped_leads f keeps a m v = record {
   there = v.there;
   taken = v.taken;
+  odd = rw (v.odd_new, v.odd_cur) refl;
   keeps = each_by MovesFile (λ a b. AllZip KeepsFile a (map f b)) tt
       (λ s t ss ts m rest. (keeps_on s t (f t) m.keeps (keeps t), rest)) a.entries m.entries v.moves;
 }
@@ -113,20 +119,18 @@ mapped_leads f keeps a m v = record {
 -- the Maildir is as it was
 pub moved_maildir : {odd : List (List ℕ)} (a m b : Directories) (begun : Option Draft) (n : ℕ) → Moved a m → b ≡ m
     → maildir_in b begun odd n ≡ maildir_in a begun odd n
-moved_maildir a m b begun n v e = rw e (rw (v.there, v.taken, files_moved a.entries m.entries v.moves) refl)
+moved_maildir a m b begun n v e = rw e (rw (v.there, v.taken, v.odd_new, v.odd_cur, files_moved a.entries m.entries v.moves) refl)
 
 pub moved_rests : (a b : Directories) → Moved a b → SameFiles a b
-moved_rests a b v = record { there = v.there; taken = v.taken; files = files_moved a.entries b.entries v.moves }
+moved_rests a b v = record {
+  there = v.there;
+  taken = v.taken;
+  odd = rw (v.odd_new, v.odd_cur) refl;
+  files = files_moved a.entries b.entries v.moves;
+}
 
 pub same_rests_at : (a m b : Directories) → Moved a m → b ≡ m → SameFiles a b
 same_rests_at a m b v e = rw e (moved_rests a m v)
-
-pub rests_on_at : (a b c : Directories) → SameFiles a b → SameFiles b c → SameFiles a c
-rests_on_at a b c first then = record {
-  there = then.there ∙ first.there;
-  taken = then.taken ∙ first.taken;
-  files = then.files ∙ first.files;
-}
 
 -- ---- durable names
 
@@ -166,6 +170,7 @@ rest b = record {
   taken = refl;
   odd_new = refl;
   odd_cur = refl;
+  dirs_cur = refl;
   moves = zip_same MovesFile same_moves b.entries;
   rests = λ folder quiet. (quiet, zip_same (RestsFile folder) (same_rests folder) b.entries);
 }
@@ -182,6 +187,7 @@ one old front back s t new o = record {
   taken = o.taken;
   odd_new = o.odd_new;
   odd_cur = o.odd_cur;
+  dirs_cur = o.dirs_cur;
   moves = rw (o.before, o.after) (each_one MovesFile same_moves front back s t o.moves);
   rests = λ folder quiet.
       let r = o.rests folder quiet in
@@ -214,6 +220,7 @@ on a b c first then = record {
   taken = then.taken ∙ first.taken;
   odd_new = then.odd_new ∙ first.odd_new;
   odd_cur = then.odd_cur ∙ first.odd_cur;
+  dirs_cur = then.dirs_cur ∙ first.dirs_cur;
   moves = zip_on MovesFile moves_on a.entries b.entries c.entries first.moves then.moves;
   rests = λ folder quiet.
       let after = then.rests folder quiet in

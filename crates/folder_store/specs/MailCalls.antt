@@ -1,10 +1,10 @@
 -- What each call does to the folders of a Maildir, once others have moved files.
 use Rattle.std.specs.{
-  Prelude.{◌≡◌, ◌≢◌, ◌⊎◌, ◌||◌, ◌↔◌, ℕ, Bool, true, false, not, IsTrue, List, [], ◌∷◌, ◌++◌, map, Result, Ok, Err, Vec},
-  Prelude.{IfErr, IfOk, OnOk, String, string_bytes, IsPermutation, Contains, bytes_eq},
-  List.{AllByRecursion, AllZip, filter, list_any},
+  Prelude.{◌≡◌, ◌⊎◌, ◌||◌, ℕ, Bool, true, false, not, IsTrue, List, [], ◌∷◌, ◌++◌, map, Result, Ok, Err, Vec},
+  Prelude.{IfErr, IfOk, OnOk, String, string_bytes, IsPermutation, Contains},
+  List.{AllByRecursion, AllZip, filter},
 }
-use Rattle.mail_terms.specs.MaildirName.{base}
+use Rattle.mail_terms.specs.UniqueId.{has_id}
 use Rattle.mail_store.specs.{
   declared.fault.StoreFault.{StoreFault, TheVariants.{Missing, Refused}},
   declared.maildir.disk.Folder.{Folder, TheVariants.{New, Cur}},
@@ -17,7 +17,7 @@ use Rattle.folder_store.specs.{
   declared.mail_folders.{FoundNames.FoundNames, Sought.{Sought, TheVariants.{All, Stems}}},
   FileFolder.{MadeFile, Makes},
   MailFolders.{Directories, MailFile, KeepsFile, Moved, files_at, is_left, is_taken, name_at, entries_in, rests_in},
-  MailFolders.{odd_names_in, touches_new, touches_cur},
+  MailFolders.{closed_in, odd_in_both, odd_names_in, touches_new, touches_cur, unopened_in},
 }
 
 -- others moved files, and then the call did this
@@ -39,10 +39,11 @@ without_taken d = record d {
   taken = d.taken ++ files_at (filter is_taken d.entries);
 }
 
--- a folder was listed, and has rested since; what can't be opened bears these names there
-abbrev pub after_listing : Folder → List (List ℕ) → Directories → Directories
-after_listing New odd d = record (without_taken d) { new_rests = true; odd_new = odd }
-after_listing Cur odd d = record (without_taken d) { cur_rests = true; odd_cur = odd }
+-- a folder was listed, and has rested since; what can't be opened bears the names there that were seen
+abbrev pub after_listing : Folder → (seen : Directories) → Directories → Directories
+after_listing New seen d = record (without_taken d) { new_rests = true; odd_new = seen.odd_new }
+after_listing Cur seen d =
+    record (without_taken d) { cur_rests = true; odd_cur = seen.odd_cur; dirs_cur = seen.dirs_cur }
 
 -- `check`: the folder is there
 abbrev pub ChecksIn : {T : Type 0} → Folder → Result T StoreFault → Directories → Directories → Type 0
@@ -58,51 +59,55 @@ names_sought (Stems stems) names = filter (is_sought stems.now) names
 abbrev pub AreSought : Sought → List (List ℕ) → List (List ℕ) → Type 0
 AreSought sought names told = (order : List (List ℕ)) × IsPermutation names order × (told ≡ names_sought sought order)
 
--- whether a name is one of these
-abbrev pub has_name : List (List ℕ) → List ℕ → Bool
-has_name names name = list_any (bytes_eq name) names
-
 -- the odd ones among names that were listed, and those of files: the others
 abbrev pub odd_names : List (List ℕ) → List (List ℕ) → List (List ℕ)
-odd_names odd names = filter (has_name odd) names
+odd_names odd names = filter (has_id odd) names
 
 abbrev pub file_names : List (List ℕ) → List (List ℕ) → List (List ℕ)
-file_names odd names = filter (λ name. not (has_name odd name)) names
+file_names odd names = filter (λ name. not (has_id odd name)) names
 
 -- the same, but if all are sought each counts as that of a file
 abbrev pub names_told : Sought → List (List ℕ) → List (List ℕ) → List (List ℕ)
 names_told All odd names = names
 names_told (Stems stems) odd names = file_names odd names
 
--- `list`: the names of the files of a folder that are sought, in any order, and others that what can't be opened bears
+-- each of these names is sought
+abbrev pub AllSought : {A : Type 0} → List (String A) → List (List ℕ) → Type 0
+AllSought stems names = AllByRecursion (λ name. is_sought stems name ≡ true) names
+
+-- where files and what can't be opened bear these names, the odd ones are exactly those of the latter that are sought;
+-- these were told, and no others as such. If all are sought, no name counts as odd
+abbrev pub ShowsOdd : Sought → (files closed odd names : List (List ℕ)) → Type 0
+ShowsOdd All files closed odd names = odd ≡ []
+ShowsOdd (Stems stems) files closed odd names =
+    (odd ≡ file_names (filter (is_sought stems.now) files) (filter (is_sought stems.now) closed))
+    × IsPermutation odd (odd_names odd names)
+
+-- `list`: the names of the files of a folder that are sought, in any order, and others that what can't be opened bears:
+-- each of these that is sought
 abbrev pub ListsIn : {A B : Type 0} → Folder → Sought → Result (Vec (String A) B) StoreFault → Directories
     → Directories → Type 0
 ListsIn folder sought (Ok names) old new = (is_there old.there folder ≡ true)
     × AreSought sought (map name_at (entries_in folder old.entries))
-    (names_told sought (odd_names_in folder new) (map string_bytes names.items))
-    × (new ≡ after_listing folder (odd_names_in folder new) old)
+    (names_told sought (unopened_in folder new) (map string_bytes names.items))
+    × (new ≡ after_listing folder new old)
+    × ShowsOdd sought (map name_at (entries_in folder old.entries)) (closed_in folder old) (odd_names_in folder new)
+    (map string_bytes names.items)
 ListsIn folder sought (Err fault) old new = Lacks old folder fault new
 
--- `files_among`: of these names of `new` and `cur` those of files, in order; and of the odd ones all of `new`, and some
--- of `cur`: no delivery needs the name of a folder there
+-- `files_among`: of these names of `new` and `cur` those of files, in order, and the odd ones
 abbrev pub TellsFiles : List (List ℕ) → List (List ℕ) → Result FoundNames StoreFault → Directories → Directories
     → Type 0
 TellsFiles in_new in_cur r old new = (new ≡ old) × IfOk r (λ found.
-    (map string_bytes found.files.items ≡ file_names old.odd_new in_new ++ file_names old.odd_cur in_cur)
-    × (noted : List ℕ → Bool)
-    × (map string_bytes found.odd.items
-    ≡ odd_names old.odd_new in_new ++ filter noted (odd_names old.odd_cur in_cur)))
+    (map string_bytes found.files.items
+    ≡ file_names (unopened_in New old) in_new ++ file_names (unopened_in Cur old) in_cur)
+    × (map string_bytes found.odd.items ≡ odd_names old.odd_new in_new ++ odd_names old.odd_cur in_cur))
 
 -- `rests`: if the answer is true, the folder has rested since it was last listed
 abbrev pub TellsRest : Folder → Result Bool StoreFault → Directories → Directories → Type 0
 TellsRest folder r old new =
     (new ≡ old) × IfOk r (λ rests. IsTrue rests → rests_in folder old ≡ true)
     × IfMissing r (is_there old.there folder ≡ false)
-
--- `has`: whether a file of `new` has the name
-abbrev pub LooksUpNew : List ℕ → Result Bool StoreFault → Directories → Directories → Type 0
-LooksUpNew name r old new =
-    (new ≡ old) × IfOk r (λ found. IsTrue found ↔ Contains (map name_at (entries_in New old.entries)) name)
 
 -- `make`: a file without bytes and without a name
 abbrev pub MakesDraft : {N : Type 0} → (N → MadeFile) → Result N StoreFault → Directories → Directories → Type 0
@@ -121,14 +126,14 @@ put_as name file = record {
   is_gone = false;
 }
 
--- no file of `new` has the name
+-- nothing in `new` has the name: no file, and nothing that can't be opened
 abbrev pub IsFree : List ℕ → Directories → Type 0
-IsFree name d = AllByRecursion (λ (s : MailFile). s.is_new ≡ true → s.name ≢ name) d.entries
+IsFree name d = (Contains (map name_at (entries_in New d.entries)) name → ⊥) × (Contains d.closed_new name → ⊥)
 
--- a file that was made is put into `new`, if no file there has the name
+-- a file that was made is put into `new`, where nothing has the name
 abbrev pub PutsIntoNew : MadeFile → List ℕ → Directories → Directories → Type 0
 PutsIntoNew file name old new = IsFree name old
-    → new ≡ record old { entries = old.entries ++ put_as name file ∷ []; new_rests = false }
+    × (new ≡ record old { entries = old.entries ++ put_as name file ∷ []; new_rests = false })
 
 -- `put`: a refused call did it, or nothing
 abbrev pub PutsDraft : {T : Type 0} → MadeFile → List ℕ → Result T StoreFault → Directories → Directories → Type 0
@@ -168,12 +173,14 @@ FlushesFiles stems answer old new = new ≡ old
 pub record SameFiles (old new : Directories) : Type 0 where
   pub there : new.there ≡ old.there
   pub taken : new.taken ≡ old.taken
+  pub odd : odd_in_both new ≡ odd_in_both old
   pub files : files_at new.entries ≡ files_at old.entries
 
 -- these files came after the others, whose names may be durable by now
 pub record BringsFiles (old : Directories) (added : List File) (new : Directories) : Type 0 where
   pub there : new.there ≡ old.there
   pub taken : new.taken ≡ old.taken
+  pub odd : odd_in_both new ≡ odd_in_both old
   pub risen : List File
   pub reached : AllZip MayBeNamed (files_at old.entries) risen
   pub files : files_at new.entries ≡ risen ++ added
@@ -182,28 +189,35 @@ pub record BringsFiles (old : Directories) (added : List File) (new : Directorie
 pub record Leads (old new : Directories) : Type 0 where
   pub there : new.there ≡ old.there
   pub taken : new.taken ≡ old.taken
+  pub odd : odd_in_both new ≡ odd_in_both old
   pub keeps : AllZip KeepsFile old.entries new.entries
 
--- the same, but files that readers took away may be known no longer, except as taken
+-- the same, but files that readers took away may be known no longer, except as taken, and what can't be opened may have
+-- been seen in a folder that is there
 pub record Learns (old new : Directories) : Type 0 where
   pub there : new.there ≡ old.there
   pub gone : List File
+  pub odd : old.there.new ≡ false → old.there.cur ≡ false → odd_in_both new ≡ odd_in_both old
   pub taken : new.taken ≡ old.taken ++ gone
   pub left : IsWithout (files_at old.entries) gone (files_at new.entries)
 
 -- at one moment these were the names of `new` and of `cur` that are sought, and since then others only moved files
 abbrev pub ListedBoth : {A B : Type 0} → Sought → Vec (String A) B × Vec (String A) B → Directories → Type 0
 ListedBoth sought names d =
-    (moment : Directories) × ListsIn New sought (Ok names.0) moment (after_listing New moment.odd_new moment)
-    × ListsIn Cur sought (Ok names.1) moment (after_listing Cur moment.odd_cur moment)
+    (moment : Directories) × ListsIn New sought (Ok names.0) moment (after_listing New moment moment)
+    × ListsIn Cur sought (Ok names.1) moment (after_listing Cur moment moment)
     × Moved (without_taken moment) d
 
--- the names of both folders at one moment that have one of these stems; and each file has a durable name
-pub record ToldBoth {A B : Type 0} (stems : List (String A)) (names : List (String B)) (d : Directories) : Type 0 where
+-- the names of both folders at one moment that have one of these stems: those of files, and those that what can't be
+-- opened bears; and each file has a durable name
+pub record ToldBoth {A B : Type 0} (stems : List (String A)) (names odd : List (String B)) (d : Directories)
+    : Type 0 where
   pub new_is_there : d.there.new ≡ true
   pub cur_is_there : d.there.cur ≡ true
   pub lists : AreAmong stems (names_of (files_at d.entries)) (bases_told names)
   pub named : AllNamed (files_at d.entries)
+  pub odd_are : IsPermutation (odd_in_both d) (map string_bytes odd)
+  pub odd_sought : AllSought stems (odd_in_both d)
 
 -- one of the folders isn't there
 abbrev pub LacksOne : Directories → Type 0
@@ -224,17 +238,13 @@ TellsOne old folder r new =
 
 -- ---- settling
 
--- no file of `new` or `cur` has the name, with whatever marks
-abbrev pub IsUnknown : List ℕ → Directories → Type 0
-IsUnknown name d = Contains (names_of (files_at d.entries)) (base name) → ⊥
-
--- a file that was flushed is in one of the folders, if no file had its name; its name may be durable
+-- a file that was flushed is in one of the folders, and all that were there still are; its name may be durable
 abbrev pub StandsIn : Directories → List ℕ → List ℕ → Directories → Type 0
-StandsIn old content name new = IsUnknown name old → (is_named : Bool)
+StandsIn old content name new = (is_named : Bool)
     × BringsFiles old (record (mail name content) { is_named = is_named } ∷ []) new
 
 -- a file that was made was flushed, put under the name, and then the names of `new` were flushed; a refused call did
--- a part of this
+-- a part of this. No file is replaced, whatever has the name
 abbrev pub PutsDurably : {T : Type 0} → Directories → List ℕ → List ℕ → Result T StoreFault → Directories → Type 0
-PutsDurably old content name (Ok done) new = IsUnknown name old → BringsFiles old (mail name content ∷ []) new
+PutsDurably old content name (Ok done) new = BringsFiles old (mail name content ∷ []) new
 PutsDurably old content name (Err fault) new = SameFiles old new ⊎ StandsIn old content name new

@@ -27,16 +27,20 @@ pub record MailFile : Type 0 where
 
 -- which of the folders are there; the files of `new` and `cur` in the order in which they came; whether `new`, and
 -- `cur`, have rested since they were last listed: no file came, went or got another name there; the files that readers
--- took away, in the order in which that was seen; and which names of `new`, and of `cur`, what can't be opened bore
--- when that folder was last listed
+-- took away, in the order in which that was seen; which names in `new`, and in `cur`, what can't be opened bears, but
+-- for folders in `cur`: no delivery needs the name of one; which of these were seen when that folder was last listed,
+-- since they were sought; and which names of folders were seen in `cur` then
 pub record Directories : Type 0 where
   pub there : Folders
   pub entries : List MailFile
   pub new_rests : Bool
   pub cur_rests : Bool
   pub taken : List File
+  pub closed_new : List (List ℕ)
+  pub closed_cur : List (List ℕ)
   pub odd_new : List (List ℕ)
   pub odd_cur : List (List ℕ)
+  pub dirs_cur : List (List ℕ)
 
 -- what a flush of the names of `new`, or of `cur`, makes durable
 abbrev pub touches_new : MailFile → Bool
@@ -78,10 +82,24 @@ abbrev pub rests_in : Folder → Directories → Bool
 rests_in New d = d.new_rests
 rests_in Cur d = d.cur_rests
 
--- which names of a folder what can't be opened bore when that was last listed
+-- which names in a folder what can't be opened bears, but for folders in `cur`
+abbrev pub closed_in : Folder → Directories → List (List ℕ)
+closed_in New d = d.closed_new
+closed_in Cur d = d.closed_cur
+
+-- which of these were seen when it was last listed
 abbrev pub odd_names_in : Folder → Directories → List (List ℕ)
 odd_names_in New d = d.odd_new
 odd_names_in Cur d = d.odd_cur
+
+-- the same of both
+abbrev pub odd_in_both : Directories → List (List ℕ)
+odd_in_both d = d.odd_new ++ d.odd_cur
+
+-- which names of a folder weren't those of files when that was last listed
+abbrev pub unopened_in : Folder → Directories → List (List ℕ)
+unopened_in New d = d.odd_new
+unopened_in Cur d = d.dirs_cur ++ d.odd_cur
 
 -- ---- what readers do
 
@@ -106,12 +124,14 @@ pub record RestsFile (folder : Folder) (s t : MailFile) : Type 0 where
   pub name : is_in folder s ≡ true → t.name ≡ s.name
   pub gone : is_in folder s ≡ true → t.is_gone ≡ s.is_gone
 
--- others moved and marked files, or took some away; a folder that still rests wasn't touched
+-- others moved and marked files, or took some away; a folder that still rests wasn't touched. At any moment they may
+-- put what can't be opened into the folders, and take it away: nothing is said of these names
 pub record Moved (old new : Directories) : Type 0 where
   pub there : new.there ≡ old.there
   pub taken : new.taken ≡ old.taken
   pub odd_new : new.odd_new ≡ old.odd_new
   pub odd_cur : new.odd_cur ≡ old.odd_cur
+  pub dirs_cur : new.dirs_cur ≡ old.dirs_cur
   pub moves : AllZip MovesFile old.entries new.entries
   pub rests : (folder : Folder) → rests_in folder new ≡ true
       → (rests_in folder old ≡ true) × AllZip (RestsFile folder) old.entries new.entries
@@ -122,6 +142,7 @@ pub record OneMoves (old : Directories) (front back : List MailFile) (s t : Mail
   pub taken : new.taken ≡ old.taken
   pub odd_new : new.odd_new ≡ old.odd_new
   pub odd_cur : new.odd_cur ≡ old.odd_cur
+  pub dirs_cur : new.dirs_cur ≡ old.dirs_cur
   pub before : old.entries ≡ front ++ s ∷ back
   pub after : new.entries ≡ front ++ t ∷ back
   pub moves : MovesFile s t
@@ -139,14 +160,15 @@ files_at entries = map mail_at entries
 abbrev pub draft_begun : {N A : Type 0} → (N → MadeFile) → String A × N → Draft
 draft_begun made begun = draft (string_bytes begun.0) (made begun.1).content
 
-abbrev pub maildir_in : Directories → Option Draft → List (List ℕ) → ℕ → Maildir
-maildir_in d begun odd failures = record {
+abbrev pub maildir_in : Directories → Option Draft → (told : List (List ℕ)) → ℕ → Maildir
+maildir_in d begun told failures = record {
   there = d.there;
   files = files_at d.entries;
   begun = begun;
   failures = failures;
   taken = d.taken;
-  odd = odd;
+  odd = odd_in_both d;
+  told = told;
 }
 
 -- folders of which nothing is known
@@ -157,8 +179,11 @@ unknown_directories = record {
   new_rests = false;
   cur_rests = false;
   taken = [];
+  closed_new = [];
+  closed_cur = [];
   odd_new = [];
   odd_cur = [];
+  dirs_cur = [];
 }
 
 -- a Maildir of which nothing is known; no file is being written and no call was refused

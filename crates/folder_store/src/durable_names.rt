@@ -1,8 +1,8 @@
 //! What a Maildir does to its folders in several calls.
 
-ghost use Rattle.std.specs.Prelude.{◌≡◌, ◌++◌, true, IfErr, IfOk, IfSome, OnOk};
+ghost use Rattle.std.specs.Prelude.{IfErr, IfSome};
 ghost use Rattle.mail_store.specs.Fault.{IsDeviceFault};
-ghost use Rattle.folder_store.specs.MailCalls.{ListedBoth, PutsDurably, SameFiles, TellsOfBoth, TellsOne, ToldBoth};
+ghost use Rattle.folder_store.specs.MailCalls.{ListedBoth, PutsDurably, TellsOfBoth, TellsOne, ToldBoth};
 
 use crate::file_folder::NewFile;
 use crate::mail_folders::{FoundNames, MailFolders, Sought};
@@ -57,7 +57,7 @@ pub fn told_names<F: MailFolders>(
 ) -> Result<FoundNames, StoreFault>
     ensures tells { F.sound folders.new → F.sound folders.old
         × TellsOfBoth (F.directories folders.old) result (F.directories folders.new)
-        (λ found. ToldBoth stems.now found.files.items) }
+        (λ found. ToldBoth stems.now found.files.items found.odd.items) }
     ensures fault { IfErr result IsDeviceFault }
 {
     let (in_new, in_cur) = list_both(folders, Sought::Stems(stems))?;
@@ -80,25 +80,8 @@ pub fn told_names_of<F: MailFolders>(
     Ok(names)
 }
 
-/// Flushes a file that was made. Refused if a file of `new` has the name.
-fn flush_unnamed<F: MailFolders>(
-    folders: &mut F,
-    file: &mut F::File,
-    name: &str,
-) -> Result<(), StoreFault>
-    ensures { F.sound folders.new → F.File.sound file.new → F.sound folders.old × F.File.sound file.old
-        × SameFiles (F.directories folders.old) (F.directories folders.new)
-        × OnOk result (F.File.made file.new ≡ record (F.File.made file.old) { is_flushed = true }) }
-{
-    file.flush()?;
-    if folders.has(name)? {
-        return Err(StoreFault::Refused);
-    }
-    Ok(())
-}
-
 /// Flushes a file that was made, puts it into `new` under a name, and flushes the names of `new`. Refused
-/// if a file of `new` has the name.
+/// if something in `new` has the name.
 pub fn put_durably<F: MailFolders>(
     folders: &mut F,
     file: F::File,
@@ -109,7 +92,7 @@ pub fn put_durably<F: MailFolders>(
         (F.directories folders.new) }
 {
     let mut file = file;
-    if let Err(fault) = flush_unnamed(folders, &mut file, name) {
+    if let Err(fault) = file.flush() {
         folders.discard(file);
         return Err(fault);
     }

@@ -4,15 +4,15 @@ ghost use Rattle.std.specs.{Prelude.{◌≡◌, ◌≢◌, pos}, Duration.as_nan
 ghost use Rattle.folder_store.specs.ExactListing.{IsExactListing, left_of};
 
 use crate::mail_folders::Sought;
-use crate::system::entry_in;
 use mail_store::stem;
 use std::alloc::{AllocError, Global};
 use std::collections::BTreeSet;
 use std::fs::Metadata;
+use std::io::Read;
 use std::os::unix::fs::MetadataExt;
 use std::rt::Files;
 use std::time::{Clock, Duration};
-use std::{fs, io, thread};
+use std::{io, thread};
 use system_calls::System;
 
 /// How many milliseconds a folder must be unchanged before it is listed, so that each later change
@@ -25,8 +25,11 @@ const STEP_OF_SECONDS_MILLIS: u64 = 1_020;
 /// For how many seconds a folder that changes all the time is listed again.
 const MOST_SECONDS: u64 = 2;
 
-/// After how many entries a pass looks whether the folder has changed.
-const LOOK_EACH: u32 = 4_096;
+/// How many octets of names are read at once.
+const READ_AT_ONCE: usize = 32_768;
+
+/// After how many reads a pass looks whether the folder has changed.
+const LOOK_EACH: u64 = 8;
 
 /// How many times a folder is listed.
 const MOST_LISTINGS: u32 = 100;
@@ -148,57 +151,111 @@ fn listing_of(before: ChangeTime, after: ChangeTime, passed: Duration) -> Listin
     }
 }
 
-/// The stems that are sought, to be looked up; None if all names are.
-fn stems_sought<'b>(
-    alloc: Global,
-    sought: Sought<'b>,
-) -> Result<Option<BTreeSet<&'b str>>, AllocError> {
-    let Sought::Stems(texts) = sought else {
-        return Ok(None);
-    };
-    let mut stems = BTreeSet::new(alloc);
-    for text in texts {
-        stems.insert(text.as_str())?;
-    }
-    Ok(Some(stems))
+/// What two texts begin with alike.
+fn shared_front<'b>(one: &'b [u8], other: &[u8]) -> &'b [u8] {
+    let octets = one.iter().zip(other);
+    &one[..octets.take_while(|(octet, same)| octet == same).count()]
 }
 
-/// Whether a name is one that readers look at, and has one of these stems if there are any.
-fn is_sought(stems: &Option<BTreeSet<&str>>, name: &str) -> bool {
-    let has_stem = match stems {
-        Some(stems) => stems.contains(stem(name)),
-        None => true,
-    };
-    has_stem && !name.starts_with('.')
+/// These texts, to be looked up.
+fn set_of<'b>(alloc: Global, texts: &'b [String]) -> Result<BTreeSet<&'b str>, AllocError> {
+    let mut set = BTreeSet::new(alloc);
+    for text in texts {
+        set.insert(text.as_str())?;
+    }
+    Ok(set)
+}
+
+/// The names that are sought, so that each name of a folder can be looked up.
+#[derive(Drop)]
+struct Search<'b> {
+    sought: Sought<'b>,
+    /// What the stem of each begins with.
+    front: &'b [u8],
+    /// The stems, if they are sought and a name that begins so was seen.
+    stems: Option<BTreeSet<&'b str>>,
+}
+
+impl<'b> Search<'b> {
+    fn new(sought: Sought<'b>) -> Search<'b> {
+        let mut front = b"".as_slice();
+        if let Sought::Stems(stems) = sought {
+            front = stems.first().map_or(front, |stem| stem.as_bytes());
+            for stem in stems {
+                front = shared_front(front, stem.as_bytes());
+            }
+        }
+        Search {
+            sought,
+            front,
+            stems: None,
+        }
+    }
+
+    /// Whether a stem is one of those that are sought.
+    fn has(&mut self, alloc: Global, stem: &str) -> Result<bool, AllocError> {
+        let Sought::Stems(texts) = self.sought else {
+            return Ok(true);
+        };
+        if self.stems.is_none() {
+            self.stems = Some(set_of(alloc, texts)?);
+        }
+        Ok(
+            self.stems
+                .as_ref()
+                .is_some_and(|stems| stems.contains(stem)),
+        )
+    }
+
+    /// Adds those of the names that are sought. Each is ended by a NUL; readers look at none that begins with a
+    /// full stop, and one that isn't UTF-8 is skipped.
+    fn add(
+        &mut self,
+        alloc: Global,
+        octets: &[u8],
+        found: &mut Vec<String>,
+    ) -> Result<(), AllocError> {
+        for name in octets.split(|octet| *octet == 0) {
+            if name.is_empty() || name.starts_with(b".") || !name.starts_with(self.front) {
+                continue;
+            }
+            if let Ok(name) = str::from_utf8(name) {
+                if self.has(alloc, stem(name))? {
+                    found.push(String::from_str(alloc, name)?)?;
+                }
+            }
+        }
+        Ok(())
+    }
 }
 
 /// The names sought that one pass through a folder finds. If names change meanwhile, the system may leave
 /// out a file that is there all the time; and on tmpfs it finds a renamed file again, so a pass
 /// ends early once the folder isn't as it was seen.
-fn pass_through<R: Files + Clock + AllocGlobal + Clone + Drop>(
+fn pass_through<R: Files + Clock + AllocGlobal>(
     system: &System<'_, R>,
     path: &str,
     seen: &Sighting,
-    stems: &Option<BTreeSet<&str>>,
+    search: &mut Search<'_>,
 ) -> io::Result<Vec<String>> {
-    let mut names = Vec::new(system.alloc());
-    let mut until_look = LOOK_EACH;
-    let entries = fs::read_dir(system.rt, path);
-    for entry in system.refusals.noted("open", path, entries)? {
-        until_look = until_look.saturating_sub(1);
-        if until_look == 0 {
-            if Sighting::now(system, path)?.change() != seen.change() {
-                break;
-            }
-            until_look = LOOK_EACH;
+    let mut found = Vec::new(system.alloc());
+    let mut octets = vec![in system.alloc(); 0u8; READ_AT_ONCE]?;
+    // With the slash a link to a folder is followed.
+    let within = format!(in system.alloc(); "{path}/")?;
+    let opened = system.rt.open_dir(within.as_str());
+    let mut folder = system.refusals.noted("open", path, opened)?;
+    for reads in 1..u64::MAX {
+        let read = folder.read(&mut octets);
+        let count = system.refusals.noted("read", path, read)?;
+        if count == 0 {
+            break;
         }
-        if let Some(entry) = entry_in(system.refusals, path, entry)? {
-            if is_sought(stems, entry.file_name()) {
-                names.push(String::from_str(system.alloc(), entry.file_name())?)?;
-            }
+        search.add(system.alloc(), &octets[..count], &mut found)?;
+        if reads % LOOK_EACH == 0 && Sighting::now(system, path)?.change() != seen.change() {
+            break;
         }
     }
-    Ok(names)
+    Ok(found)
 }
 
 /// The names of a folder that are sought, at one moment between the call and its end: none is left out and none
@@ -212,12 +269,12 @@ fn pass_through<R: Files + Clock + AllocGlobal + Clone + Drop>(
 /// old time.
 ///
 /// The error is the system's, or a refusal if the folder found no rest within 2 seconds.
-pub fn list_names<R: Files + Clock + AllocGlobal + Clone + Drop>(
+pub fn list_names<R: Files + Clock + AllocGlobal>(
     system: &System<'_, R>,
     path: &str,
     sought: Sought<'_>,
 ) -> io::Result<FolderNames> {
-    let stems = stems_sought(system.alloc(), sought)?;
+    let mut search = Search::new(sought);
     let start = system.rt.monotonic()?;
     let mut seen = Sighting::now(system, path)?;
     for _ in 0..MOST_LISTINGS {
@@ -225,7 +282,7 @@ pub fn list_names<R: Files + Clock + AllocGlobal + Clone + Drop>(
         if wait > Duration::ZERO {
             thread::sleep(system.rt, wait);
         }
-        let names = pass_through(system, path, &seen, &stems)?;
+        let names = pass_through(system, path, &seen, &mut search)?;
         let again = Sighting::now(system, path)?;
         match listing_of(
             seen.change(),

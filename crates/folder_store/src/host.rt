@@ -135,23 +135,25 @@ impl<'a, R: Files + AllocGlobal> HostFolder<'a, R> {
         self.system.stat(self.paths.folder_path()?.as_str())
     }
 
-    // Whether what has a name is a regular file, if there is something, which is noted: it is in the place
-    // of another file.
-    pub(crate) fn is_file(&self, name: &str) -> Result<Option<bool>, StoreFault> {
-        match answer_of(self.system.refusals, self.look_up(name)) {
-            Ok(found) => {
-                let is_file = found.is_file();
-                let words = if is_file {
-                    "is there already"
-                } else {
-                    IRREGULAR
-                };
-                self.paths.refuse(name, words);
-                Ok(Some(is_file))
-            }
-            Err(StoreFault::Missing) => Ok(None),
-            Err(fault) => Err(fault),
+    // Notes that something has a name, and says whether it is no file.
+    pub(crate) fn refuse_taken(&self, name: &str) -> bool {
+        let is_file = !matches!(self.look_up(name), Ok(found) if !found.is_file());
+        let words = if is_file {
+            "is there already"
+        } else {
+            IRREGULAR
+        };
+        self.paths.refuse(name, words);
+        !is_file
+    }
+
+    // Puts a file that was made under a name, if nothing has it, and says whether it did. The file is given up else.
+    pub(crate) fn put_new(&mut self, file: HostNewFile<'a, R>, name: &str) -> io::Result<bool> {
+        let answer = self.name_made(file.path.as_str(), name);
+        if !matches!(answer, Ok(true)) {
+            let _ = self.system.unlink(file.path.as_str());
         }
+        answer
     }
 
     /// Whether there is a file of a name that has octets.
@@ -194,6 +196,39 @@ impl<'a, R: Files + AllocGlobal> HostFolder<'a, R> {
         let to = self.paths.path_of(name)?;
         self.handles.forget_changed();
         self.system.rename(path, to.as_str())
+    }
+
+    // A second name is given at one step, and only if nothing has it. Some file systems have no second names: there the
+    // name is looked up, and what comes to it before the rename is replaced.
+    fn name_made(&self, path: &str, name: &str) -> io::Result<bool> {
+        let to = self.paths.path_of(name)?;
+        match self.system.link(path, to.as_str()) {
+            Ok(()) => {
+                if self.system.unlink(path).is_err() {
+                    self.system.refusals.forget();
+                }
+                Ok(true)
+            }
+            Err(fault) if fault.kind() == ErrorKind::AlreadyExists => Ok(false),
+            Err(fault) if has_no_links(&fault) => {
+                self.system.refusals.forget();
+                if self.is_taken(name)? {
+                    return Ok(false);
+                }
+                self.system.rename(path, to.as_str())?;
+                Ok(true)
+            }
+            Err(fault) => Err(fault),
+        }
+    }
+
+    // Whether something has a name, be it a link that leads nowhere.
+    fn is_taken(&self, name: &str) -> io::Result<bool> {
+        match self.look_up(name) {
+            Ok(_) => Ok(true),
+            Err(fault) if fault.kind() == ErrorKind::NotFound => Ok(false),
+            Err(fault) => Err(fault),
+        }
     }
 
     fn read_all(&self, name: &str) -> io::Result<Vec<u8>> {
@@ -359,6 +394,17 @@ impl<'a, R: Files + Clock + AllocGlobal + Clone + Drop> HostFolder<'a, R> {
     pub(crate) fn read_names(&self, sought: Sought<'_>) -> io::Result<FolderNames> {
         list_names(self.system, self.paths.folder_path()?.as_str(), sought)
     }
+}
+
+/// Whether a file can't be given a second name although it may be given another one.
+fn has_no_links(fault: &io::Error) -> bool {
+    matches!(
+        fault.kind(),
+        ErrorKind::PermissionDenied
+            | ErrorKind::Unsupported
+            | ErrorKind::CrossesDevices
+            | ErrorKind::TooManyLinks
+    )
 }
 
 /// What the system answered, or a device in its place. If neither said why, what was refused before isn't

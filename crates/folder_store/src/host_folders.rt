@@ -42,7 +42,7 @@ pub struct HostFolders<'a, R: Files> {
     start: Duration,
     /// The path of each name that was last found to be odd, and why it is.
     obstructions: Vec<Vec<u8>>,
-    /// Whether the name that was looked up last is one of what is no file.
+    /// Whether a file wasn't put because something that is no file has its name.
     is_name_taken: bool,
 }
 
@@ -69,10 +69,22 @@ impl<'a, R: Files + Clock + AllocGlobal + Clone + Drop> HostFolders<'a, R> {
     ) -> HostFolders<'a, R>
         ensures { ⟦<HostFolders<'a, R> as MailFolders>⟧.directories result ≡ unknown_directories }
     {
+        HostFolders::named(system, path, ("new", "cur"), mark)
+    }
+
+    /// The same, if these are the names of the two folders in the folder at the path.
+    pub fn named(
+        system: &'a System<'a, R>,
+        path: &'a str,
+        names: (&'a str, &'a str),
+        mark: ProcessMark,
+    ) -> HostFolders<'a, R>
+        ensures { ⟦<HostFolders<'a, R> as MailFolders>⟧.directories result ≡ unknown_directories }
+    {
         HostFolders {
             system,
-            new_folder: ListedFolder::of_maildir(system, path, "new", mark),
-            cur_folder: ListedFolder::of_maildir(system, path, "cur", mark),
+            new_folder: ListedFolder::of_maildir(system, path, names.0, mark),
+            cur_folder: ListedFolder::of_maildir(system, path, names.1, mark),
             start: Duration::ZERO,
             obstructions: Vec::new(system.alloc()),
             is_name_taken: false,
@@ -303,12 +315,6 @@ impl<'a, R: Files + Clock + AllocGlobal + Clone + Drop> MailFolders for HostFold
         Err(StoreFault::Refused)
     }
 
-    fn has(&mut self, name: &str) -> Result<bool, StoreFault> {
-        let is_file = self.new_folder.host.is_file(name)?;
-        self.is_name_taken = is_file == Some(false);
-        Ok(is_file.is_some())
-    }
-
     // A file that a reader moves meanwhile is looked up again.
     fn flush_files(&mut self, stems: &[String], may_miss: bool) -> Result<bool, StoreFault> {
         let answer = self.sync_all_of(stems);
@@ -327,7 +333,12 @@ impl<'a, R: Files + Clock + AllocGlobal + Clone + Drop> MailFolders for HostFold
     }
 
     fn put(&mut self, file: HostNewFile<'a, R>, name: &str) -> Result<(), StoreFault> {
-        self.new_folder.host.put(file, name)
+        let answer = self.new_folder.host.put_new(file, name);
+        if answer_of(self.system.refusals, answer)? {
+            return Ok(());
+        }
+        self.is_name_taken = self.new_folder.host.refuse_taken(name);
+        Err(StoreFault::Refused)
     }
 
     fn discard(&mut self, file: HostNewFile<'a, R>) {

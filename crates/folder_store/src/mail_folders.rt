@@ -31,7 +31,7 @@ pub trait MailFolders {
     ghost use Rattle.std.specs.Prelude.{◌≡◌, false, true, IfErr, IfOk, Ok, map, string_bytes};
     ghost use Rattle.mail_store.specs.Fault.{IsDeviceFault};
     ghost use Rattle.folder_store.specs.MailFolders.{Directories, Moved};
-    ghost use Rattle.folder_store.specs.MailCalls.{ChecksIn, FlushesFiles, FlushesNamesIn, ListsIn, LooksUpNew, Then};
+    ghost use Rattle.folder_store.specs.MailCalls.{ChecksIn, FlushesFiles, FlushesNamesIn, ListsIn, Then};
     ghost use Rattle.folder_store.specs.MailCalls.{MakesDraft, PutsDraft, TellsFiles, TellsRest};
 
     // Whoever makes one puts it or gives it up: only that shows that it was sound, which `make` asks.
@@ -76,11 +76,6 @@ pub trait MailFolders {
             × Then (TellsRest folder result) (directories self.old) (directories self.new) }
         ensures fault { IfErr result IsDeviceFault };
 
-    /// Whether a name leads to a file of `new`.
-    fn has(&mut self, name: &str) -> Result<bool, StoreFault>
-        ensures { sound self.new → sound self.old
-            × Then (LooksUpNew name.now result) (directories self.old) (directories self.new) };
-
     /// Flushes the bytes of each file whose name has one of these stems, whichever folder it is in by
     /// now. False, only if `may_miss`, if one of them has no file: then nothing is known of the others.
     fn flush_files(&mut self, stems: &[String], may_miss: bool) -> Result<bool, StoreFault>
@@ -95,7 +90,7 @@ pub trait MailFolders {
             × Then (MakesDraft Self.File.made result) (directories self.old) (directories self.new) }
         ensures fault { IfErr result IsDeviceFault };
 
-    /// Puts a file that was made into `new`.
+    /// Puts a file that was made into `new`. Refused if something there has the name: nothing is replaced.
     fn put(&mut self, file: Self::File, name: &str) -> Result<(), StoreFault>
         ensures { sound self.new → sound self.old × Self.File.sound file
             × Then (PutsDraft (Self.File.made file) name.now result) (directories self.old) (directories self.new) };

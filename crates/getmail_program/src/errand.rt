@@ -1,8 +1,13 @@
 //! A run over devices that are made for it.
 ghost use Rattle.std.specs.Prelude.{◌≡◌, ◌≤◌, ℕ};
 ghost use Rattle.rc_file.specs.Settings.{IsValid};
-ghost use Rattle.fetch_session.specs.Hearing.{IsPlanOf};
-ghost use Rattle.getmail_program.specs.{Fetching.{FetchesAt, TellsOf}, Holding.holding_of, declared.told.Told.Told};
+ghost use Rattle.fetch_session.specs.{Account.IsSameAccount, Hearing.IsPlanOf};
+ghost use Rattle.getmail_program.specs.{
+  Fetching.{FetchesAt, TellsOf},
+  Holding.{HoldsSession, holding_of},
+  Telling.TellsAll,
+  declared.told.Told.Told,
+};
 
 use crate::devices::{Devices, seconds_now};
 use crate::ending::{Fetched, tell_all};
@@ -11,6 +16,7 @@ use crate::told::{RunTerms, hold};
 use fetch_rules::Settings;
 use fetch_session::{Account, Store};
 use getmail_setup::{Errors, Output, Paths, ShownWire, Subject};
+use mail_store::{FlatFile, MaildirDisk};
 use pop3_wire::Wire;
 use std::alloc::Global;
 use std::hash::BuildHasher;
@@ -123,6 +129,46 @@ fn finish<'a, M: Devices<'a>, E: Write>(
     }
 }
 
+/// Runs one session of the account over the link, or only previews it. What it says is written to `out`; then the
+/// line of the fault that cut it, and what else is told of it, to standard error. If not all was written to `out`, the
+/// exit status is 1.
+pub fn fetch_into<
+    R: Files + AllocGlobal,
+    W: Wire,
+    S: Write,
+    D: MaildirDisk,
+    F: FlatFile,
+    H: BuildHasher,
+    O: Write,
+    E: Write,
+>(
+    system: &System<'_, R>,
+    account: &mut Account<D, F, H>,
+    wire: &mut ShownWire<W, S>,
+    terms: RunTerms<'_>,
+    out: &mut Output<O>,
+    errors: &mut Errors<'_, E>,
+) -> Fetched
+    ensures within { result.status ≤ 1 }
+    ensures same { IsSameAccount account.old account.new }
+    ensures fetched { (told : Told) × HoldsSession W.Wire D.MaildirDisk F.FlatFile terms.entry.pretends terms.entry.now
+        account.old wire.old.wire told account.new wire.new.wire
+        × TellsAll O.contents E.contents terms.entry.explains account.old.settings
+        (IsPlanOf W.Wire D.MaildirDisk F.FlatFile terms.entry.now account.old wire.old.wire account.new wire.new.wire)
+        told out.old errors.old result out.new errors.new }
+{
+    let told = hold(system, account, wire, terms, out);
+    let settings = account.settings();
+    tell_all(
+        system.alloc(),
+        settings,
+        &terms,
+        &told,
+        out.refusal(),
+        errors,
+    )
+}
+
 /// Runs one session over devices that are made for it, or only previews it, and returns the exit status. What it says
 /// goes to `out`, all else to standard error. The caller has drawn the hasher's keys and the mark of the files.
 pub fn fetch_at<'a, R, M, E, W, H, O>(
@@ -173,9 +219,7 @@ where
     };
     let reasons = errors.reasons;
     let system = System::new(rt, &reasons.store);
-    let told = hold(&system, &mut account, &mut wire, terms, out);
-    let settings = account.settings();
-    let fetched = tell_all(alloc, settings, &terms, &told, out.refusal(), &mut errors);
+    let fetched = fetch_into(&system, &mut account, &mut wire, terms, out, &mut errors);
     let (settings, store, seen_file) = account.into_parts();
     let left = RunEnd {
         settings,

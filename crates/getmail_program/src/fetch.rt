@@ -1,7 +1,8 @@
 //! A run: its setup, the lock, the connection, and one session.
-ghost use Rattle.std.specs.Prelude.{◌≡◌, ◌≤◌, ◌&&◌, ℕ, List, Option, IfErr, IfOk, not, true};
+ghost use Rattle.std.specs.Prelude.{◌≡◌, ◌≤◌, ◌&&◌, ℕ, List, Option, IfErr, IfOk, IfSome, not, true};
 ghost use Rattle.rc_file.specs.Settings.{IsValid};
-ghost use Rattle.getmail_setup.specs.{Lock.goes_on, Places.IsSetUp};
+ghost use Rattle.getmail_setup.specs.declared.failure.Failure.{Failure};
+ghost use Rattle.getmail_setup.specs.{Failures.status_of, Lock.goes_on, Places.IsSetUp};
 ghost use Rattle.system_calls.specs.declared.system.System.{System};
 ghost use Rattle.getmail_program.specs.{Fetching.{EndsBefore, HoldsSetup, Runs}, Starting.Starts};
 
@@ -11,8 +12,9 @@ use fetch_rules::Settings;
 use file_reading::ReadFile;
 use folder_store::{HostFile, HostFolder, HostMaildir, ProcessMark};
 use getmail_setup::{
-    Errors, Failure, Link, Lock, Output, Peer, Reasons, Setup, Words, connect, fail, failure_of,
-    home, is_long_held, link_over, other_list, peer_of, set_up, take_lock,
+    Connection, Errors, Failure, Link, Lock, Output, Peer, Reasons, Setup, Words, connect, fail,
+    failure_of, home, is_long_held, link_over, other_list, peer_of, set_up, take_lock,
+    warn_of_network,
 };
 use mail_store::{FlatFile, MaildirDisk};
 use pop3_wire::Wire;
@@ -112,6 +114,23 @@ pub fn is_unattended(words: &Words) -> bool
     words.unattended && !words.pretend
 }
 
+/// Stops a first run in getmail6's place, which would fetch all mail again: says so, and returns the exit status.
+fn stop_in_place<R: Files + AllocGlobal + Clone + Drop, E: Write>(
+    rt: &R,
+    setup: &Setup,
+    errors: &mut Errors<'_, E>,
+) -> Option<u8>
+    ensures { IfSome result (λ status. ((failure : Failure) × (status ≡ status_of failure)) × (status ≤ 2)) }
+{
+    let list = match other_list(rt, setup) {
+        Ok(Some(list)) => list,
+        Ok(None) => return None,
+        Err(_) => return Some(fail(rt.alloc(), Failure::NoMemory, None, errors)),
+    };
+    let failure = Failure::OtherList(list.as_str(), setup.paths.record.as_str());
+    Some(fail(rt.alloc(), failure, None, errors))
+}
+
 /// Sets a run up from the rc file that the words name, and takes its lock. If it isn't to go on, says why, and returns
 /// the exit status.
 fn get_ready<'a, R, E>(
@@ -140,9 +159,8 @@ where
         Ok(setup) => setup,
         Err(failure) => return Err(fail(alloc, failure, None, errors)),
     };
-    if let Some(list) = other_list(rt, &setup) {
-        let failure = Failure::OtherList(list.as_str(), setup.paths.record.as_str());
-        return Err(fail(alloc, failure, None, errors));
+    if let Some(status) = stop_in_place(rt, &setup, errors) {
+        return Err(status);
     }
     let prepared = match prepare(rt, machine.process, &setup.settings) {
         Ok(prepared) => prepared,
@@ -195,10 +213,13 @@ where
     let rt = machine.rt;
     let reasons = errors.reasons;
     let server = settings.server.as_str();
-    let stream = match connect(rt, &reasons.before, server, settings.port) {
-        Ok(stream) => stream,
+    let Connection { stream, leaves } = match connect(rt, &reasons.before, server, settings.port) {
+        Ok(connection) => connection,
         Err(failure) => return fail(rt.alloc(), failure, Some(&settings), &mut errors),
     };
+    if leaves {
+        warn_of_network(&settings, &mut errors);
+    }
     let link = link_over(rt.alloc(), &stream, peer, &errors);
     let devices = HostDevices {
         for_store: &System::new(rt, &reasons.store),

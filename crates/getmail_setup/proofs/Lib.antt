@@ -1,3 +1,4 @@
+pub mod InPlaceLemmas
 pub mod OutputLemmas
 mod SetupLemmas
 mod WordsLemmas

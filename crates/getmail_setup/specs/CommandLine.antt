@@ -1,9 +1,15 @@
 -- The command line: its options and flags, and what words ask for.
-use Rattle.std.specs.{Prelude.{◌≡◌, ◌&&◌, ◌||◌, Bool, List, codes, not, option_map}, String.string_bytes}
-use Rattle.clap.specs.Words.{App, Row, count_of, first_of, with_rule}
-use Rattle.command_line.specs.Rules.{flag_rule, is_given, long_flag_rule, program, option_rule}
+use Rattle.std.specs.{Prelude.{◌≡◌, ◌&&◌, ◌||◌, Bool, List, codes, not, option_map, if◌then◌else◌}, String.string_bytes}
+use Rattle.clap.specs.{
+  Words.{App, Row, count_of, first_of, with_rule},
+  declared.error.kind.ErrorKind.{ErrorKind, TheVariants.OutOfMemory},
+}
+use Rattle.command_line.specs.Rules.{flag_rule, is_asked_text, is_given, long_flag_rule, program, option_rule}
 use Rattle.rc_file.specs.declared.flags.Flags.{Flags}
-use Rattle.getmail_setup.specs.declared.words.Words.{Words}
+use Rattle.getmail_setup.specs.declared.words.{
+  Words.Words,
+  WordsFault.{WordsFault, TheVariants.{Help, Usage, NoMemory}},
+}
 
 -- -r FILE, -g DIR
 abbrev pub with_places : App → App
@@ -54,3 +60,8 @@ pub record AsksFor (rows : List Row) (words : Words) : Type 0 where
   pub why : words.why ≡ is_given (codes "why") rows
   pub unattended : words.unattended ≡ is_unattended rows
   pub trace : words.trace ≡ is_given (codes "trace") rows
+
+-- why words ask for nothing, by the kind of clap's error
+abbrev pub words_fault : ErrorKind → WordsFault
+words_fault OutOfMemory = NoMemory
+words_fault kind = if is_asked_text kind then Help else Usage

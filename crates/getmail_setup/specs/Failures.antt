@@ -57,6 +57,12 @@ account_front (Some settings) = string_bytes settings.username ++ (codes "@" ++ 
 abbrev pub cause_line : Option Settings → List ℕ → List ℕ → List ℕ
 cause_line account words reason = codes "getmail: " ++ (account_front account ++ (words ++ (reason ++ codes "\n")))
 
+-- the warning of a connection that leaves this machine, if reasons are asked for
+abbrev pub network_warning : Bool → Settings → List ℕ
+network_warning false settings = []
+network_warning true settings = cause_line (Some settings) (codes "warning: ")
+    (codes "password and mail go over the network unencrypted: use a tunnel")
+
 -- what follows a failure's line: one with its reason, if that is known and reasons are asked for
 abbrev pub IsToldCause : Bool → Option Settings → Failure → List ℕ → Type 0
 IsToldCause false account failure text = text ≡ []

@@ -1,5 +1,6 @@
 pub mod CommandLine
 pub mod Failures
+pub mod InPlace
 pub mod Lock
 pub mod NoSetup
 pub mod Output

@@ -1,5 +1,5 @@
 //! The connection to the server: over TCP, or to a Unix socket on which a tunnel listens.
-ghost use Rattle.std.specs.{Prelude.{◌≡◌, IfOk}, String.string_bytes};
+ghost use Rattle.std.specs.{Prelude.{◌≡◌, IfOk, false, true}, String.string_bytes};
 ghost use Rattle.trace.specs.Wire.{Hides};
 ghost use Rattle.getmail_setup.specs.Places.{is_socket, peer_name};
 
@@ -66,20 +66,38 @@ pub fn is_socket(server: &str) -> bool
     server.as_bytes().starts_with(b"/")
 }
 
+/// A connection to the server.
+#[derive(Drop)]
+pub struct Connection {
+    pub stream: TcpStream,
+    /// Whether what is sent over it leaves this machine.
+    pub leaves: bool,
+}
+
 /// Connects to the server's socket, or to the first of its addresses that takes the connection.
 pub fn connect<'a, R: Net<Stream = TcpStream> + AllocGlobal>(
     rt: &R,
     refusals: &Refusals,
     server: &'a str,
     port: u16,
-) -> Result<TcpStream, Failure<'a>> {
+) -> Result<Connection, Failure<'a>>
+    ensures { is_socket server.now ≡ true → IfOk result (λ connection. connection.leaves ≡ false) }
+{
     if !is_socket(server) {
         return connect_over_tcp(rt, refusals, server, port);
     }
     match refusals.noted("connect", server, connect_to_socket(rt, server)) {
-        Ok(stream) => Ok(stream),
+        Ok(stream) => Ok(Connection {
+            stream,
+            leaves: false,
+        }),
         Err(error) => Err(failure_of(error, Failure::CannotConnect(server, port))),
     }
+}
+
+/// Whether what is sent to an address leaves this machine.
+fn leaves(address: &SocketAddr) -> bool {
+    !address.ip().to_canonical().is_loopback()
 }
 
 /// Connects to the first of the server's addresses that takes the connection.
@@ -88,7 +106,7 @@ fn connect_over_tcp<'a, R: Net<Stream = TcpStream> + AllocGlobal>(
     refusals: &Refusals,
     server: &'a str,
     port: u16,
-) -> Result<TcpStream, Failure<'a>> {
+) -> Result<Connection, Failure<'a>> {
     let addresses = (server, port).to_socket_addrs(rt);
     let addresses = match refusals.noted("getaddrinfo", server, addresses) {
         Ok(addresses) => addresses,
@@ -96,7 +114,10 @@ fn connect_over_tcp<'a, R: Net<Stream = TcpStream> + AllocGlobal>(
     };
     for address in addresses {
         match connect_to(rt, address) {
-            Ok(stream) => return Ok(stream),
+            Ok(stream) => return Ok(Connection {
+                stream,
+                leaves: leaves(&address),
+            }),
             Err(error) => note_refused(rt.alloc(), refusals, address, error),
         }
     }

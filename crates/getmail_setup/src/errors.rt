@@ -1,7 +1,7 @@
 //! What a run writes to standard error before its session, and what it keeps of refused calls.
 ghost use Rattle.std.specs.Prelude.{◌≡◌, ◌≤◌, ℕ, List, option_map};
 ghost use Rattle.getmail_setup.specs.{
-  Failures.{IsToldCause, TellsFailure, account_front, cause_line, status_of},
+  Failures.{IsToldCause, TellsFailure, account_front, cause_line, network_warning, status_of},
   Output.Puts,
 };
 
@@ -152,6 +152,22 @@ pub(crate) fn tell_unlocked<E: Write>(
         tell_reason(Some(settings), "no lock: ", &reason, &mut errors.err);
         errors.close(Subject::Notice);
     }
+}
+
+/// Warns that others can read the password and the mail on their way, if reasons are to be written.
+pub fn warn_of_network<E: Write>(settings: &Settings, errors: &mut Errors<'_, E>)
+    ensures { Puts E.contents errors.old.err (network_warning errors.old.says_why settings.now) errors.new.err }
+{
+    if !errors.says_why {
+        return errors.err.put(b"");
+    }
+    tell_reason(
+        Some(settings),
+        "warning: ",
+        b"password and mail go over the network unencrypted: use a tunnel",
+        &mut errors.err,
+    );
+    errors.close(Subject::Notice);
 }
 
 /// Writes a failure's line to standard error, and its reason, if that is known and is to be written.

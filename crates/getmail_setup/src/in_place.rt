@@ -1,60 +1,195 @@
 //! A list of what getmail6 fetched, in whose place a first run would fetch all mail again.
+ghost use Rattle.std.specs.{
+  Prelude.{◌≡◌, ◌≢◌, ◌≤◌, ◌++◌, ◌↔◌, ℕ, Bool, List, ◌∷◌, IfOk, IfSome, IfNone, IsTrue, MatchOption, length, map},
+  Prelude.true,
+  Char.is_ascii_digit,
+  List.{AllWithin, suffix_len},
+  String.string_bytes,
+};
+ghost use Rattle.getmail_setup.specs.InPlace.{HasNone, IsFullList, IsListOf, dash_for, dashed, is_address, is_mark};
+ghost use Rattle.getmail_setup.specs.InPlace.{without_runs};
+
 use crate::place::joined;
 use crate::setup::Setup;
+use std::alloc::{AllocError, Global};
 use std::fs;
 use std::io::ErrorKind;
 use std::rt::Files;
 
-/// How the name of such a list begins: `oldmail-HOST-PORT-USER`.
-const FRONT: &[u8] = b"oldmail-";
-
-/// What getmail6 writes for an octet of a user name.
-fn dashed(octet: u8) -> u8 {
-    match octet {
-        b'/' | b':' => b'-',
-        other => other,
-    }
+/// Whether getmail6 leaves an octet in no name of a file.
+fn is_mark(octet: u8) -> bool
+    ensures { result ≡ is_mark octet }
+{
+    octet == b'/'
+        || octet == b'\\'
+        || octet == b':'
+        || octet == b';'
+        || octet == b'<'
+        || octet == b'>'
+        || octet == b'|'
 }
 
-/// What is before the user's name and a `-` in a name, if that ends with them.
-fn before_user<'a>(name: &'a [u8], username: &[u8]) -> Option<&'a [u8]> {
-    let (front, user) = name.split_at_checked(name.len().checked_sub(username.len())?)?;
-    if user.iter().zip(username).all(|(a, b)| *a == dashed(*b)) {
-        return front.strip_suffix(b"-".as_slice());
-    }
-    None
+/// Of octets that getmail6 leaves out and that follow one another, the first alone.
+fn without_runs(mut text: Vec<u8>) -> Vec<u8>
+    ensures { result.items ≡ without_runs text.items }
+{
+    text.dedup_by(|a, b| is_mark(*a) && is_mark(*b));
+    text
 }
 
-/// Whether a name has a host, a `-` and a port.
-fn is_address(name: &[u8]) -> bool {
-    let digits = name
+/// What getmail6 writes for an octet.
+fn dash_for(octet: u8) -> u8
+    ensures { result ≡ dash_for octet }
+{
+    if is_mark(octet) { b'-' } else { octet }
+}
+
+/// Each octet as getmail6 writes it.
+fn with_dashes(alloc: Global, text: &[u8]) -> Result<Vec<u8>, AllocError>
+    ensures { IfOk result (λ name. name.items ≡ map dash_for text.now) }
+{
+    text.iter().map(|octet| dash_for(*octet)).collect(alloc)
+}
+
+/// A text as getmail6 has it in the name of a file: each run of such octets is one `-`.
+fn dashed(alloc: Global, text: &[u8]) -> Result<Vec<u8>, AllocError>
+    ensures { IfOk result (λ name. name.items ≡ dashed text.now) }
+{
+    let text = without_runs(Vec::from_slice(alloc, text)?);
+    with_dashes(alloc, text.as_slice())
+}
+
+/// How many digits octets end with.
+fn end_digits(octets: &[u8]) -> usize
+    ensures count { result ≡ suffix_len is_ascii_digit octets.now }
+    ensures within { result ≤ length octets.now }
+{
+    octets
         .iter()
         .rev()
         .take_while(|octet| octet.is_ascii_digit())
-        .count();
-    match name.split_at_checked(name.len() - digits.min(name.len())) {
-        Some((host, port)) => !port.is_empty() && host.len() > 1 && host.ends_with(b"-"),
-        None => false,
-    }
+        .count()
+}
+
+/// Whether octets are a host, a `-` and a port.
+fn is_address(octets: &[u8]) -> bool
+    ensures { result ≡ is_address octets.now }
+{
+    let digits = end_digits(octets);
+    let host = &octets[..octets.len() - digits];
+    digits > 0 && host.len() > 1 && host.ends_with(b"-")
+}
+
+/// What is before an end, if octets end with it.
+fn before<'a>(octets: &'a [u8], end: &[u8]) -> Option<&'a [u8]>
+    ensures { MatchOption result ((front : List ℕ) → octets.now ≢ front ++ end.now)
+        (λ front. octets.now ≡ front.now ++ end.now) }
+{
+    octets.strip_suffix(end)
+}
+
+/// What is after a front, if octets begin with it.
+fn after<'a>(octets: &'a [u8], front: &[u8]) -> Option<&'a [u8]>
+    ensures { MatchOption result ((rest : List ℕ) → octets.now ≢ front.now ++ rest)
+        (λ rest. octets.now ≡ front.now ++ rest.now) }
+{
+    octets.strip_prefix(front)
+}
+
+/// How the name of a list ends: a `-`, and the user's name.
+fn end_for(alloc: Global, username: &[u8]) -> Result<Vec<u8>, AllocError>
+    ensures { IfOk result (λ end. end.items ≡ 45 ∷ dashed username.now) }
+{
+    let user = dashed(alloc, username)?;
+    let mut end = Vec::from_slice(alloc, b"-".as_slice())?;
+    end.extend_from_slice(user.as_slice())?;
+    Ok(end)
 }
 
 /// Whether a name is that of a list of what getmail6 fetched for a user.
-fn is_list_of(name: &[u8], username: &[u8]) -> bool {
-    match name.strip_prefix(FRONT) {
-        Some(rest) => before_user(rest, username).is_some_and(is_address),
-        None => false,
+fn is_list_of(alloc: Global, name: &[u8], username: &[u8]) -> Result<bool, AllocError>
+    ensures { IfOk result (λ is. IsTrue is ↔ IsListOf name.now username.now) }
+{
+    let end = end_for(alloc, username)?;
+    let Some(rest) = after(name, b"oldmail-") else {
+        return Ok(false);
+    };
+    match before(rest, end.as_slice()) {
+        Some(address) => Ok(is_address(address)),
+        None => Ok(false),
     }
 }
 
-/// Whether a path leads to a file that isn't empty.
-fn has_octets<R: Files>(rt: &R, path: &str) -> bool {
-    match fs::metadata(rt, path) {
-        Ok(found) => found.is_file() && found.len() > 0,
-        Err(_) => false,
+/// One that says of paths whether they lead to a file that isn't empty.
+trait LookAt {
+    // What it said of a path.
+    ghost said: { Self → List ℕ → Bool → Type 0 };
+
+    fn has_octets(&self, path: &str) -> bool
+        ensures { said self.now path.now result };
+}
+
+/// A machine's files.
+#[derive(Drop)]
+struct OnMachine<'a, R> {
+    rt: &'a R,
+}
+
+impl<'a, R: Files> LookAt for OnMachine<'a, R> {
+    ghost said = { λ _ _ _. Unit {0} };
+
+    fn has_octets(&self, path: &str) -> bool {
+        match fs::metadata(self.rt, path) {
+            Ok(found) => found.is_file() && found.len() > 0,
+            Err(_) => false,
+        }
     }
 }
 
-/// Whether nothing is at a path.
+/// The path of a name of a folder, if it is a list of what getmail6 fetched for a user and isn't empty.
+fn list_at<F: LookAt>(
+    alloc: Global,
+    files: &F,
+    folder: &str,
+    name: &str,
+    username: &str,
+) -> Result<Option<String>, AllocError>
+    ensures some { IfOk result (λ found. IfSome found (λ path.
+        IsFullList (F.said files.now) folder.now username.now (string_bytes path))) }
+    ensures none { IfOk result (λ found. IfNone found (HasNone (F.said files.now) folder.now username.now name.now)) }
+{
+    if !is_list_of(alloc, name.as_bytes(), username.as_bytes())? {
+        return Ok(None);
+    }
+    let path = joined(alloc, folder, name)?;
+    if !files.has_octets(path.as_str()) {
+        return Ok(None);
+    }
+    Ok(Some(path))
+}
+
+/// The path of the first of some names of a folder that is such a list.
+fn list_among<F: LookAt>(
+    alloc: Global,
+    files: &F,
+    folder: &str,
+    names: &[String],
+    username: &str,
+) -> Result<Option<String>, AllocError>
+    ensures some { IfOk result (λ found. IfSome found (λ path.
+        IsFullList (F.said files.now) folder.now username.now (string_bytes path))) }
+    ensures none { IfOk result (λ found. IfNone found (AllWithin (λ name.
+        HasNone (F.said files.now) folder.now username.now (string_bytes name)) names.now 0 (length names.now))) }
+{
+    for name in names {
+        if let Some(path) = list_at(alloc, files, folder, name.as_str(), username)? {
+            return Ok(Some(path));
+        }
+    }
+    Ok(None)
+}
+
+/// Whether nothing is at a path. Of what can't be looked at it isn't known.
 fn is_free<R: Files>(rt: &R, path: &str) -> bool {
     match fs::symlink_metadata(rt, path) {
         Ok(_) => false,
@@ -62,36 +197,47 @@ fn is_free<R: Files>(rt: &R, path: &str) -> bool {
     }
 }
 
-/// The path of a list in a folder of what getmail6 fetched for a user, if there is one that isn't empty.
-fn list_in<R: Files + AllocGlobal + Clone + Drop>(
+/// The names in a folder; none if it can't be listed.
+fn names_in<R: Files + AllocGlobal + Clone + Drop>(
     rt: &R,
     folder: &str,
-    username: &str,
-) -> Option<String> {
-    for entry in fs::read_dir(rt, folder).ok()? {
-        let Ok(entry) = entry else {
-            continue;
-        };
-        let name = entry.file_name();
-        if !is_list_of(name.as_bytes(), username.as_bytes()) {
-            continue;
-        }
-        let path = joined(rt.alloc(), folder, name).ok()?;
-        if has_octets(rt, path.as_str()) {
-            return Some(path);
+) -> Result<Vec<String>, AllocError> {
+    let alloc = rt.alloc();
+    let mut names = Vec::new(alloc);
+    let Ok(entries) = fs::read_dir(rt, folder) else {
+        return Ok(names);
+    };
+    for entry in entries {
+        if let Ok(entry) = entry {
+            names.push(String::from_str(alloc, entry.file_name())?)?;
         }
     }
-    None
+    Ok(names)
 }
 
 /// The path of a list of what getmail6 fetched for the user, if there is one beside where the record would be,
 /// there is no record, and only new messages are to be fetched: all of them would count as new.
-pub fn other_list<R: Files + AllocGlobal + Clone + Drop>(rt: &R, setup: &Setup) -> Option<String> {
+pub fn other_list<R: Files + AllocGlobal + Clone + Drop>(
+    rt: &R,
+    setup: &Setup,
+) -> Result<Option<String>, AllocError>
+    ensures { setup.now.settings.read_all ≡ true → IfOk result (λ found. found ≡ None) }
+{
     let record = setup.paths.record.as_str();
     if setup.settings.read_all || !is_free(rt, record) {
-        return None;
+        return Ok(None);
     }
-    let (folder, _) = record.rsplit_once('/')?;
+    let Some((folder, _)) = record.rsplit_once('/') else {
+        return Ok(None);
+    };
     let folder = if folder.is_empty() { "/" } else { folder };
-    list_in(rt, folder, setup.settings.username.as_str())
+    let names = names_in(rt, folder)?;
+    let username = setup.settings.username.as_str();
+    list_among(
+        rt.alloc(),
+        &OnMachine { rt },
+        folder,
+        names.as_slice(),
+        username,
+    )
 }

@@ -15,8 +15,8 @@ mod setup;
 mod shown_wire;
 mod words;
 
-pub use connection::{Link, Peer, SILENT, connect, link_over, peer_of};
-pub use errors::{Errors, Reasons, fail};
+pub use connection::{Connection, Link, Peer, SILENT, connect, link_over, peer_of};
+pub use errors::{Errors, Reasons, fail, warn_of_network};
 pub use failure::{Failure, OUT_OF_MEMORY, explain, failure_of, tell};
 pub use in_place::other_list;
 pub use journal::{Journal, Kept, Part, Subject};
@@ -26,4 +26,4 @@ pub use place::{home, joined};
 pub use run_memory::is_long_held;
 pub use setup::{Paths, Setup, account_of, set_up, told_path};
 pub use shown_wire::ShownWire;
-pub use words::{Words, read_words};
+pub use words::{Words, WordsFault, read_words, words_fault};

@@ -132,6 +132,11 @@ fn meaning_of<'a, E: Write>(
     Ok(override_with(settings, flags)?)
 }
 
+/// Overwrites octets that may have a password before they are given up.
+fn wipe(mut octets: Vec<u8>) {
+    octets.fill(0);
+}
+
 /// Reads the rc file, writes its warnings, and returns its settings, changed by the flags. The reason of a
 /// fault is kept, and a file that others may read is warned of, if reasons are to be written.
 fn settings_of<'a, R: Files + AllocGlobal, S: ReadFile, E: Write>(
@@ -165,6 +170,7 @@ fn settings_of<'a, R: Files + AllocGlobal, S: ReadFile, E: Write>(
             Err(_) => {}
         }
     }
+    wipe(bytes);
     settings
 }
 

@@ -1,8 +1,12 @@
 //! The command line, read with clap.
 ghost use Rattle.std.specs.{Prelude.{◌≡◌, IfOk, map}, String.string_bytes};
-ghost use Rattle.clap.specs.Words.{FailsBy, app_of, fault_of, found_of, matches_of, rows_of};
-ghost use Rattle.getmail_setup.specs.CommandLine.{AsksFor, flags_in, getmail, is_unattended};
+ghost use Rattle.clap.specs.{
+  Values.kind_of,
+  Words.{FailsBy, app_of, fault_of, found_of, matches_of, rows_of},
+};
+ghost use Rattle.getmail_setup.specs.CommandLine.{AsksFor, flags_in, getmail, is_unattended, words_fault};
 
+use clap::error::ErrorKind;
 use clap::{ArgMatches, Command, Error};
 use command_line::{add, flag, is_given, long_flag, program, text, value_option};
 use rc_file::Flags;
@@ -27,6 +31,27 @@ pub struct Words {
     pub unattended: bool,
     /// Whether the conversation and refused calls of the system are traced.
     pub trace: bool,
+}
+
+/// Why the words of a command line ask for nothing.
+#[derive(Clone, Copy, Debug, PartialEq, Eq)]
+pub enum WordsFault {
+    /// They ask for the text of help or of the version.
+    Help,
+    /// They are a mistake.
+    Usage,
+    NoMemory,
+}
+
+/// Why words ask for nothing, by clap's error.
+pub fn words_fault(error: &Error) -> WordsFault
+    ensures { result ≡ words_fault (kind_of error.now) }
+{
+    match error.kind() {
+        ErrorKind::OutOfMemory => WordsFault::NoMemory,
+        ErrorKind::DisplayHelp | ErrorKind::DisplayVersion => WordsFault::Help,
+        _ => WordsFault::Usage,
+    }
 }
 
 // The lines of help.
@@ -121,7 +146,7 @@ fn words_of(alloc: Global, matches: &ArgMatches<'_>) -> Result<Words, AllocError
 }
 
 /// What these words ask for, the program's name first. Clap's error has the text of help, of the version
-/// or of the mistake, or its kind is OutOfMemory.
+/// or of the mistake, or its kind is OutOfMemory; `words_fault` tells which.
 pub fn read_words(alloc: Global, words: &[String]) -> Result<Words, Error>
     ensures faults { FailsBy (fault_of getmail (map string_bytes words.now)) result }
     ensures asks { IfOk result (AsksFor (matches_of getmail (map string_bytes words.now))) }

@@ -1,37 +1,31 @@
 -- Calls of `fetch_local` are calls of `session` whose servers are honest, so what is promised of those holds of them.
-use Rattle.std.{proofs.Common.{◌≡◌, ℕ, List, [], ◌∷◌, ◌++◌, None, refl}, specs.List.AllByRecursion}
+use Rattle.std.proofs.Common.{◌≡◌, ℕ, List, [], ◌∷◌, ◌++◌, None, refl}
 use Rattle.mail_store.specs.declared.{maildir.disk.MaildirDisk.Ghosts as DiskGhosts, file.flat_file.FlatFile.Ghosts as FileGhosts}
-use Rattle.pop3_wire.specs.{World.{Message, IsMessage}, declared.wire.Wire.Ghosts as WireGhosts}
+use Rattle.pop3_wire.specs.{declared.wire.Wire.Ghosts as WireGhosts}
 use Rattle.pop3_server.specs.{declared.maildrop.Maildrop.Ghosts as DropGhosts, LoopLink.Loop}
 use Rattle.fetch_session.specs.{
   declared.account.Store.{Store, TheVariants.{Maildir as InMaildir, Mboxrd as InMbox}},
   Target.{is_sound, mail_in},
 }
 use Rattle.fetch_runs.specs.{
-  Promises.{Devices, IsOf, state_with, MboxStarts},
+  Promises.{ComesFor, Devices, IsTextOf, state_with, MboxStarts},
   Sessions.MboxMail,
-  Calls.{Called, CallsKeepPromises, EmptyAccountsHold, IsCall, Left, with_left, MboxCallsKeepPromises},
+  Calls.{Called, CallsKeepPromises, EmptyAccountsHold, IsCall, Left, Lost, with_left, MboxCallsKeepPromises},
 }
 use Rattle.local_fetch.{
   specs.Local.loop_to,
   specs.Fetches.{Fetch, FetchesFromNothing, FetchesKeepPromises, IsFetch, MboxFetchesFromNothing, MboxFetchesKeepPromises, ServerRemoves},
-  specs.Fetches.{as_call, no_entries, nothing_yet, shown_by},
+  specs.Fetches.{as_call, no_entries, nothing_yet},
   proofs.LocalLemmas.served_by,
 }
 
--- the server has messages
-messages : (text_of : List ℕ → List ℕ) (all : List Message) → AllByRecursion (IsOf text_of) all → AllByRecursion IsMessage all
-messages text_of [] each = tt
-messages text_of (m ∷ all) (one, each) = (record { legal = one.legal; whole = one.whole }, messages text_of all each)
-
 module _ {M D F : Type 0} (link : WireGhosts (Loop M)) (disk : DiskGhosts D) (file : FileGhosts F) (drop : DropGhosts M)
     (history : (w : Loop M) → link.history w ≡ w.link) where
-  is_call : {S : Type 0} (In : S → Store D F) (text_of : List ℕ → List ℕ) (devices : Devices S F) (fetch : Fetch M S F)
-      → IsFetch link disk file drop In text_of devices fetch → (vanished : List (List ℕ)) × ServerRemoves drop fetch vanished
-      × IsCall link disk file In (λ store. is_sound disk file (In store)) text_of devices (as_call drop fetch vanished)
-  is_call In text_of devices fetch is =
-      let s = is.fetched.served is.store_sound is.file_sound is.drop_sound
-      (messages text_of (shown_by drop fetch.server) is.maildrop.each) in (
+  is_call : {S : Type 0} (In : S → Store D F) (Comes : List ℕ → List ℕ → Type 0) (devices : Devices S F) (fetch : Fetch M S F)
+      → IsFetch link disk file drop In Comes devices fetch → (vanished : List (List ℕ)) × ServerRemoves drop fetch vanished
+      × IsCall link disk file In (λ store. is_sound disk file (In store)) Comes devices (as_call drop fetch vanished)
+  is_call In Comes devices fetch is =
+      let s = is.fetched.served is.store_sound is.file_sound is.drop_sound is.messages in (
         s.vanished,
         s.left,
         record {
@@ -52,19 +46,24 @@ module _ {M D F : Type 0} (link : WireGhosts (Loop M)) (disk : DiskGhosts D) (fi
     shows,
     kept,
     λ account_is is.
-        let (vanished, left, call) = is_call InMaildir mail.text devices fetch is in
+        let (vanished, left, call) = is_call InMaildir (ComesFor mail) devices fetch is in
         let (shown, held, then) = law mail state devices (Called (as_call drop fetch vanished) ∷ []) shows kept in
         let (promised, (shows', kept')) = then account_is call in
         let after = state_with mail (with_left mail state promised.left) vanished promised.after in
         (vanished, left, promised, fetches_keep law mail after fetch.after later shows' kept'),
   )
   fetches_keep law mail state devices (Left left account ∷ later) shows kept =
-      let (_, _, others, loss) = law mail state devices (Left left account ∷ []) shows kept in (
+      let (_, _, others) = law mail state devices (Left left account ∷ []) shows kept in (
         shows,
         kept,
         λ then between.
             let (safe, (shows', kept')) = others then between in
             (safe, fetches_keep law mail (state_with mail state [] account) left later shows' kept'),
+      )
+  fetches_keep law mail state devices (Lost left account ∷ later) shows kept =
+      let (_, _, loss) = law mail state devices (Lost left account ∷ []) shows kept in (
+        shows,
+        kept,
         λ safe lost.
             let (safe', fronts, (shows', kept')) = loss safe lost in
             (safe', fronts, fetches_keep law mail (record state { account = account }) left later shows' kept'),
@@ -76,14 +75,22 @@ module _ {M D F : Type 0} (link : WireGhosts (Loop M)) (disk : DiskGhosts D) (fi
     shows,
     holds,
     λ only_new is.
-        let (vanished, left, call) = is_call InMbox base.text devices fetch is in
+        let (vanished, left, call) = is_call InMbox (IsTextOf base) devices fetch is in
         let (now, held, then) = law base done account devices (Called (as_call drop fetch vanished) ∷ []) shows holds in
-        let (sent, after, sent_is, shown, appends, safe, (shows', holds')) = then only_new call in
+        let (sent, after, sent_is, shown, appends, safe, keeps, (shows', holds')) = then only_new call in
         let on = mbox_fetches_keep law base (done ++ appends.more) after fetch.after later shows' holds' in
-        (vanished, left, held, sent, after, sent_is, shown, appends, on),
+        (vanished, left, held, sent, after, sent_is, shown, appends, safe, keeps, on),
   )
   mbox_fetches_keep law base done account devices (Left left now ∷ later) shows holds =
       (shows, holds, λ then from first there. mbox_fetches_keep law from first now left later then there)
+  mbox_fetches_keep law base done account devices (Lost left now ∷ later) shows holds =
+      let (_, _, loss) = law base done account devices (Lost left now ∷ []) shows holds in (
+        shows,
+        holds,
+        λ safe lost.
+            let (keeps, safe', (first, (shows', holds'))) = loss safe lost in
+            (keeps, safe', (first, mbox_fetches_keep law base first now left later shows' holds')),
+      )
 
 -- ---- from nothing on
 

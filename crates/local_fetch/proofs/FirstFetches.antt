@@ -1,6 +1,7 @@
 -- From nothing on, a call keeps what it removes from the server, and an uncut one all that was there, up to its limits.
 use Rattle.std.{
-  proofs.{Common.{◌≡◌, inl, inr, ℕ, Bool, true, false, List, [], ◌∷◌, ◌++◌, refl, subst, sym, ◌∙◌, true≢false}, lemmas.Bool.cases_Bool},
+  proofs.Common.{◌≡◌, inl, inr, ℕ, Bool, true, false, List, [], ◌∷◌, ◌++◌, refl, subst, sym, ◌∙◌, true≢false},
+  proofs.lemmas.{Bool.cases_Bool, Slice.Eq.bytes_eq-Decides},
   specs.{List.{AllByRecursion, list_any}, Prelude.bytes_eq},
 }
 use Rattle.mail_store.specs.{
@@ -10,6 +11,7 @@ use Rattle.mail_store.specs.{
 }
 use Rattle.pop3_wire.specs.{World.Message, declared.{command.Command.{Command, TheVariants.Dele}, wire.Wire.Ghosts as WireGhosts}}
 use Rattle.pop3_server.specs.{declared.maildrop.Maildrop.Ghosts as DropGhosts, LoopLink.Loop}
+use Rattle.fetch_session.specs.Account.{digits_of}
 use Rattle.fetch_runs.{
   specs.{Accounts.{AccountMail, copies}, Promises.{Call, DeletesOneOf, FetchesWanted, IsSafe, Mail, MboxStarts, state_with}},
   specs.Calls.{Called, EmptyAccountsHold, with_left},
@@ -28,7 +30,7 @@ none_left (g ∷ gone) left ([], back, never, rest) = absurd never
 none_left (g ∷ gone) left (f ∷ front, back, never, rest) = absurd never
 
 -- a message that is held has a copy
-no_copies : (front : List ℕ) (fs : List File) → copies fs front ≡ [] → list_any (λ (f : File). bytes_eq front (stem f.name)) fs ≡ false
+pub no_copies : (front : List ℕ) (fs : List File) → copies fs front ≡ [] → list_any (λ (f : File). bytes_eq front (stem f.name)) fs ≡ false
 no_copies front [] none = refl
 no_copies front (f ∷ fs) none = elim (cases_Bool (bytes_eq front (stem f.name))) [
   | inl is ↦ absurd (let never = rw is at none in cc)
@@ -66,9 +68,21 @@ wanted_by call is_odd is_known is_too {P = P} {Too = Too} wanted same all by =
 
 pub keep_mail : {M D F : Type 0} (link : WireGhosts (Loop M)) (disk : DiskGhosts D) (file : FileGhosts F) (drop : DropGhosts M)
     → EmptyAccountsHold → FetchesKeepPromises link disk file drop → FirstFetchesKeepMail link disk file drop
-keep_mail link disk file drop empty law mail devices fetch no_file no_record account_is is =
+keep_mail link disk file drop empty law text devices fetch no_file no_record is =
+    let mail : Mail = record { account = digits_of fetch.settings; is_text = λ id came. bytes_eq came (text id) } in
     let (shows, kept, then) = from_nothing link disk file drop empty law mail devices (Called fetch ∷ []) no_file no_record in
-    let (vanished, removed, promised, (shows', kept')) = then account_is is in
+    let (vanished, removed, promised, (shows', kept')) = then refl (record {
+      fetched = is.fetched;
+      messages = is.messages;
+      maildrop = record {
+        each = all_both _ is.maildrop.each is.maildrop.each
+            (λ m of _. record { legal = of.legal; text = (bytes_eq-Decides m.text (text m.uid)).1 of.text });
+        distinct = is.maildrop.distinct;
+      };
+      store_sound = is.store_sound;
+      file_sound = is.file_sound;
+      drop_sound = is.drop_sound;
+    }) in
     let left_none = none_left promised.taken.gone promised.left.files (rw no_file at promised.taken.files) in
     let safe_held : (id : List ℕ) → IsSafe mail (state_with mail (with_left mail (nothing_yet (disk.maildir devices.store)) promised.left)
     vanished promised.after) id → is_held mail.account promised.after.maildir id ≡ true =
@@ -90,10 +104,12 @@ keep_mail link disk file drop empty law mail devices fetch no_file no_record acc
           (λ m. copies (disk.maildir fetch.after.store).files (stem_of mail.account m.uid) ≡ m.text ∷ [])) shows'.maildir
           (wanted_by (as_call drop fetch vanished) (is_odd mail.account promised.after.maildir)
           (is_held mail.account promised.left) (λ id. false) promised.promises.wanted
-          (λ id. rw left_none refl) is.maildrop.each (λ m safe of. elim (kept'.holds m.uid of.legal) [
+          (λ id. rw left_none refl) is.maildrop.each (λ m (safe, _) of. elim (kept'.holds m.uid of.legal) [
             | inl none ↦ absurd (true≢false (sym (safe_held m.uid safe)
                 ∙ no_copies (stem_of mail.account m.uid) promised.after.maildir.files none))
-            | inr one ↦ rw (← shows'.maildir, of.text) one
+            | inr (came, comes, one) ↦
+                let same : m.text ≡ came = of.text ∙ sym ((bytes_eq-Decides came (text m.uid)).0 comes) in
+                rw (← shows'.maildir, same) one
           ])),
     )
 
@@ -103,7 +119,7 @@ pub keep_entries : {M D F : Type 0} (link : WireGhosts (Loop M)) (disk : DiskGho
     → MboxStarts → MboxFetchesKeepPromises link disk file drop → MboxFirstFetchesKeepMail link disk file drop
 keep_entries link disk file drop starts law text_of devices fetch no_record only_new is =
     let (_, _, then) = mbox_from_nothing link disk file drop starts law text_of devices (Called fetch ∷ []) no_record in
-    let (vanished, removed, _, sent, after, sent_is, shows, appends, _) = then only_new is in
+    let (vanished, removed, _, sent, after, sent_is, shows, appends, _, _, _) = then only_new is in
     let done : List Message = appends.more in
     let kept = appends.promises in (
       vanished,

@@ -3,5 +3,8 @@ mod FirstFetches
 mod GoodLemmas
 mod LocalLemmas
 mod LoopLemmas
+mod Losses
+mod MoveLemmas
+mod OneMessage
 mod ReplyLemmas
 mod RunLemmas

@@ -10,7 +10,7 @@ use Rattle.mail_store.specs.{
   Maildir.Maildir,
 }
 use Rattle.pop3_wire.specs.{
-  World.Message,
+  World.{IsMessage, Message},
   Honest.HasSent,
   declared.{command.Command.{Command, TheVariants.Dele}, wire.Wire.Ghosts as WireGhosts},
 }
@@ -31,11 +31,12 @@ use Rattle.fetch_session.specs.{
 }
 use Rattle.fetch_runs.specs.{
   Accounts.{AccountMail, copies, message_ids},
-  Promises.{Call, Devices, IsBetween, IsMaildrop, Invariant, Mail, State, state_with, AppendsMail, Base, FetchesWanted},
-  Promises.HoldsEntries,
+  Promises.{Call, ComesFor, Devices, IsBetween, IsMaildrop, IsTextOf, Invariant, Mail, State, state_with, AppendsMail},
+  Promises.{Base, FetchesWanted, HoldsEntries},
   Sessions.{MboxMail, entries_of, is_retr},
-  Calls.{Called, Happening, HoldsNoMore, IsLeftByLoss, IsPromised, Left, Shows, account_over, with_left, ShowsMbox},
-  Losses.{IsCrashSafe, KeepsDurable, KeepsFronts},
+  Calls.{Called, Happening, HoldsNoMore, IsLeftByLoss, IsMboxLeftByLoss, IsPromised, KeepsEntries, Left, Lost, Shows},
+  Calls.{ShowsMbox, account_over, with_left},
+  Losses.{IsCrashSafe, IsMboxSafe, KeepsDurable, KeepsFronts, KeepsRecorded, TrustsMbox},
 }
 use Rattle.local_fetch.specs.Local.{AreWithout, WasFetchedLocally, loop_to}
 
@@ -65,15 +66,17 @@ as_call drop fetch vanished = record {
   vanished = vanished;
 }
 
--- a call was made with these devices. The world: its server has mail whose ids are distinct and name one text. Memory:
+-- a call was made with these devices. The world: its server has mail whose ids are distinct, and texts that come for
+-- these. Memory:
 -- the devices and the maildrop did what their traits say, which those in memory do if fewer of their calls lacked
 -- memory than can be counted
 pub record IsFetch {M D F S : Type 0} (link : WireGhosts (Loop M)) (disk : DiskGhosts D) (file : FileGhosts F)
-    (drop : DropGhosts M) (In : S → Store D F) (text_of : List ℕ → List ℕ) (devices : Devices S F) (fetch : Fetch M S F)
-    : Type 0 where
+    (drop : DropGhosts M) (In : S → Store D F) (Comes : List ℕ → List ℕ → Type 0) (devices : Devices S F)
+    (fetch : Fetch M S F) : Type 0 where
   pub fetched : WasFetchedLocally link disk file drop fetch.now (account_over In fetch.settings devices) fetch.server
       fetch.report (account_over In fetch.settings fetch.after) fetch.wire
-  pub maildrop : IsMaildrop text_of (shown_by drop fetch.server)
+  pub messages : AllByRecursion IsMessage (shown_by drop fetch.server)
+  pub maildrop : IsMaildrop Comes (shown_by drop fetch.server)
   pub store_sound : is_sound disk file (In fetch.after.store)
   pub file_sound : file.sound fetch.after.file
   pub drop_sound : drop.sound fetch.wire.machine.drop
@@ -92,7 +95,7 @@ abbrev pub KeepPromises : {M D F : Type 0} → WireGhosts (Loop M) → DiskGhost
 KeepPromises link disk file drop mail state devices [] = Shows disk file devices state.account × Invariant mail state
 KeepPromises link disk file drop mail state devices (Called fetch ∷ later) = Shows disk file devices state.account
     × Invariant mail state × (digits_of fetch.settings ≡ mail.account
-    → IsFetch link disk file drop InMaildir mail.text devices fetch
+    → IsFetch link disk file drop InMaildir (ComesFor mail) devices fetch
     → (vanished : List (List ℕ)) × ServerRemoves drop fetch vanished
     × (is : IsPromised link disk file mail state devices (as_call drop fetch vanished))
     × KeepPromises link disk file drop mail (state_with mail (with_left mail state is.left) vanished is.after)
@@ -104,7 +107,9 @@ KeepPromises link disk file drop mail state devices (Left left account ∷ later
     → (IsCrashSafe (file.disk devices.file) mail state → IsCrashSafe (file.disk left.file) mail next)
     × (HoldsNoMore mail state account → KeepsFronts mail state next))
     × KeepPromises link disk file drop mail next left later)
-    × (IsCrashSafe (file.disk devices.file) mail state → IsLeftByLoss disk file devices left account
+KeepPromises link disk file drop mail state devices (Lost left account ∷ later) = Shows disk file devices state.account
+    × Invariant mail state × (IsCrashSafe (file.disk devices.file) mail state
+    → IsLeftByLoss disk file devices left account
     → let next : State = record state { account = account } in IsCrashSafe (file.disk left.file) mail next
     × KeepsFronts mail state next × KeepPromises link disk file drop mail next left later)
 
@@ -141,38 +146,48 @@ pub record SendsFor (messages : List Message) (Is : List ℕ → Type 0) (report
 -- text
 abbrev pub FirstFetchesKeepMail : {M D F : Type 0} → WireGhosts (Loop M) → DiskGhosts D → FileGhosts F → DropGhosts M
     → Type 0
-FirstFetchesKeepMail {M} {D} {F} link disk file drop = (mail : Mail) (devices : Devices D F)
+FirstFetchesKeepMail {M} {D} {F} link disk file drop = (text : List ℕ → List ℕ) (devices : Devices D F)
     (fetch : Fetch M D F) → (disk.maildir devices.store).files ≡ [] → (file.stored devices.file).content ≡ None
-    → digits_of fetch.settings ≡ mail.account → IsFetch link disk file drop InMaildir mail.text devices fetch
-    → (vanished : List (List ℕ)) × ServerRemoves drop fetch vanished
-    × AllByRecursion (λ id. is_held mail.account (disk.maildir fetch.after.store) id ≡ true) vanished
+    → IsFetch link disk file drop InMaildir (λ id came. came ≡ text id) devices fetch
+    → let account = digits_of fetch.settings in (vanished : List (List ℕ)) × ServerRemoves drop fetch vanished
+    × AllByRecursion (λ id. is_held account (disk.maildir fetch.after.store) id ≡ true) vanished
     × (sent : List ℕ) × ((link.history fetch.wire).sent ≡ (link.history (loop_to fetch.server)).sent ++ sent)
-    × SendsFor (shown_by drop fetch.server) (λ id. is_held mail.account (disk.maildir fetch.after.store) id ≡ true)
+    × SendsFor (shown_by drop fetch.server) (λ id. is_held account (disk.maildir fetch.after.store) id ≡ true)
     fetch.report sent
-    × FetchesWanted (as_call drop fetch vanished) (is_odd mail.account (disk.maildir fetch.after.store)) (λ id. false)
-    (λ m. copies (disk.maildir fetch.after.store).files (stem_of mail.account m.uid) ≡ m.text ∷ [])
+    × FetchesWanted (as_call drop fetch vanished) (is_odd account (disk.maildir fetch.after.store)) (λ id. false)
+    (λ m. copies (disk.maildir fetch.after.store).files (stem_of account m.uid) ≡ m.text ∷ [])
 
 -- ---- with an mboxrd file
 
 -- the devices show an account whose file holds the entries of these messages; if the next of these happens, a call
--- that reads only what is new appends entries and keeps its promises, and they do so after it. What others or a loss of
--- power left has the entries of some messages after some bytes, as each file has without an open intent
+-- that reads only what is new appends entries and keeps its promises, and they do so after it. What others left has the
+-- entries of some messages after some bytes, as each file has without an open intent; and so has what a loss of power
+-- left, if whatever it might leave has, which calls keep: it keeps all entries
 abbrev pub KeepMboxPromises : {M D F : Type 0} → WireGhosts (Loop M) → DiskGhosts D → FileGhosts F → DropGhosts M
     → Base → List Message → MboxMail → Devices F F → List (Happening (Fetch M F F) (Devices F F) MboxMail) → Type 0
 KeepMboxPromises link disk file drop base done account devices [] =
     ShowsMbox file devices account × HoldsEntries base done account
 KeepMboxPromises link disk file drop base done account devices (Called fetch ∷ later) =
     ShowsMbox file devices account × HoldsEntries base done account × (fetch.settings.read_all ≡ false
-    → IsFetch link disk file drop InMbox base.text devices fetch
+    → IsFetch link disk file drop InMbox (IsTextOf base) devices fetch
     → (vanished : List (List ℕ)) × ServerRemoves drop fetch vanished
     × (holds : HoldsEntries base done account) × (sent : List ℕ) × (after : MboxMail)
     × ((link.history fetch.wire).sent ≡ (link.history (loop_to fetch.server)).sent ++ sent)
     × ShowsMbox file fetch.after after × (appends : AppendsMail base holds (as_call drop fetch vanished) sent after)
+    × (TrustsMbox file devices fetch.after → IsMboxSafe (HoldsEntries base) file devices
+    → IsMboxSafe (HoldsEntries base) file fetch.after)
+    × (TrustsMbox file devices fetch.after → KeepsRecorded (file.disk devices.file) (file.disk fetch.after.file)
+    account.rows after.rows fetch.report.outcome)
     × KeepMboxPromises link disk file drop base (done ++ appends.more) after fetch.after later)
 KeepMboxPromises link disk file drop base done account devices (Left left now ∷ later) =
     ShowsMbox file devices account × HoldsEntries base done account × (ShowsMbox file left now
     → (from : Base) (first : List Message) → HoldsEntries from first now
     → KeepMboxPromises link disk file drop from first now left later)
+KeepMboxPromises link disk file drop base done account devices (Lost left now ∷ later) =
+    ShowsMbox file devices account × HoldsEntries base done account × (IsMboxSafe (HoldsEntries base) file devices
+    → IsMboxLeftByLoss file devices left now → KeepsEntries base done now.file
+    × IsMboxSafe (HoldsEntries base) file left
+    × ((first : List Message) × KeepMboxPromises link disk file drop base first now left later))
 
 -- a law: so it is of any list
 abbrev pub MboxFetchesKeepPromises : {M D F : Type 0} → WireGhosts (Loop M) → DiskGhosts D → FileGhosts F
@@ -202,7 +217,7 @@ abbrev pub MboxFirstFetchesKeepMail : {M D F : Type 0} → WireGhosts (Loop M) �
     → DropGhosts M → Type 0
 MboxFirstFetchesKeepMail {M} {D} {F} link disk file drop = (text_of : List ℕ → List ℕ) (devices : Devices F F)
     (fetch : Fetch M F F) → (file.stored devices.file).content ≡ None → fetch.settings.read_all ≡ false
-    → IsFetch link disk file drop InMbox text_of devices fetch
+    → IsFetch link disk file drop InMbox (IsTextOf (no_entries text_of [])) devices fetch
     → (vanished : List (List ℕ)) × ServerRemoves drop fetch vanished × (done : List Message)
     × AllByRecursion (λ id. has_id (message_ids done) id ≡ true) vanished
     × (sent : List ℕ) × ((link.history fetch.wire).sent ≡ (link.history (loop_to fetch.server)).sent ++ sent)

@@ -1,21 +1,30 @@
 -- A call of `fetch_local` in which nothing fails: the session ends, and has stored what it wants.
-use Rattle.std.specs.{Prelude.{◌≡◌, ◌≢◌, ◌≤◌, ℕ, false, length}, List.AllByRecursion, String.string_bytes}
-use Rattle.mail_terms.specs.Text.{lines_of_text}
-use Rattle.mail_store.specs.declared.{
-  maildir.disk.MaildirDisk.Ghosts as DiskGhosts,
-  file.flat_file.FlatFile.Ghosts as FileGhosts,
+use Rattle.std.specs.{
+  Prelude.{◌≡◌, ◌≢◌, ◌≤◌, ℕ, true, false, [], ◌∷◌, None, Some, length},
+  List.AllByRecursion,
+  String.string_bytes,
 }
+use Rattle.mail_terms.specs.Text.{lines_of_text}
+use Rattle.mail_store.specs.{
+  FileName.stem_of,
+  Maildir.all_there,
+  declared.{maildir.disk.MaildirDisk.Ghosts as DiskGhosts, file.flat_file.FlatFile.Ghosts as FileGhosts},
+}
+use Rattle.rc_file.specs.declared.settings.Settings.{Settings}
 use Rattle.pop3_wire.specs.{Stuffed.stuffed_lines, World.{Message, IsMessage}, declared.wire.Wire.Ghosts as WireGhosts}
 use Rattle.pop3_client.specs.Turns.{text_limit}
 use Rattle.pop3_server.specs.{
-  declared.maildrop.Maildrop.Ghosts as DropGhosts,
+  declared.{maildrop.Maildrop.Ghosts as DropGhosts, state.State.TheVariants.Authorization},
   HonestLoop.IsUnused,
   LoopLink.Loop,
-  Maildrop.there,
+  Maildrop.{DropMail, there},
   ServerMachine.Machine,
 }
 use Rattle.fetch_record.specs.Record.{Loaded}
+use Rattle.fetch_rules.specs.Wanted.{is_within}
+use Rattle.fetch_runs.specs.{Accounts.copies, Calls.account_over, Promises.Devices}
 use Rattle.fetch_session.specs.{
+  declared.account.Store.TheVariants.{Maildir as InMaildir},
   declared.{fault.Fault.TheVariants.NoMemory, report.{Report.Report, Outcome.TheVariants.{Ended, Cut as WasCut}}},
   Account.{Holding, digits_of},
   Record.FileReadAs,
@@ -24,7 +33,7 @@ use Rattle.fetch_session.specs.{
   Session.{Keeping, keeping},
   Target.{AfterTakingIn, Target, is_sound, stores_of, target_of},
 }
-use Rattle.local_fetch.specs.Local.{WasFetchedLocally, loop_to, unused}
+use Rattle.local_fetch.specs.{Fetches.Fetch, Local.{WasFetchedLocally, loop_to, unused}}
 
 -- the message's body, as it is sent, is within the client's limit
 abbrev pub IsWithin : Message → Type 0
@@ -66,3 +75,44 @@ GoodFetchesStoreAll {M} {D} {F} link disk file drop = (now : ℕ) (old : Holding
     → IsUnhindered disk file drop old server report new wire
     → (report.outcome ≡ Ended) × AfterTakingIn (stores_of disk file old.store) (λ left. StoresAll old.settings
     (target_in old) now unused (keeping left (file.stored old.file)) wire.link (kept_in disk file new))
+
+-- ---- one message
+
+-- a new server for the user and the password of these settings, whose maildrop has this one message
+abbrev pub server_with : Settings → Message → Machine DropMail
+server_with settings message = record {
+  user = string_bytes settings.username;
+  pass = string_bytes settings.password;
+  state = Authorization None;
+  drop = record { slots = Some message ∷ []; failures = 0; removals = 0 };
+}
+
+-- a call over a Maildir as each in memory is: its folders are there, and all in it can be opened; and memory didn't run
+-- out: no call of the devices, of the maildrop or of the link was refused
+pub record HadMemory {D F : Type 0} (disk : DiskGhosts D) (file : FileGhosts F) (drop : DropGhosts DropMail)
+    (devices : Devices D F) (fetch : Fetch DropMail D F) : Type 0 where
+  pub there : (disk.maildir fetch.after.store).there ≡ all_there
+  pub none_odd : (disk.maildir fetch.after.store).odd ≡ []
+  pub store_sound : disk.sound fetch.after.store
+  pub file_sound : file.sound fetch.after.file
+  pub drop_sound : drop.sound fetch.wire.machine.drop
+  pub store_refused : (disk.maildir fetch.after.store).failures ≡ (disk.maildir devices.store).failures
+  pub file_refused : (file.stored fetch.after.file).failures ≡ (file.stored devices.file).failures
+  pub drop_refused : (drop.mail fetch.wire.machine.drop).failures ≡ 0
+  pub up : fetch.wire.down ≡ false
+  pub memory : fetch.report.outcome ≢ WasCut NoMemory
+
+-- a law: from a Maildir without files and no record on, a call to a new server with one message, within the limits,
+-- ends if memory didn't run out, and has stored the message
+abbrev pub OneIsStored : {D F : Type 0} → WireGhosts (Loop DropMail) → DiskGhosts D → FileGhosts F
+    → DropGhosts DropMail → Type 0
+OneIsStored {D} {F} link disk file drop = (message : Message) (devices : Devices D F) (fetch : Fetch DropMail D F)
+    → IsMessage message → IsWithin message → is_within fetch.settings.max_size message.size ≡ true
+    → (disk.maildir devices.store).files ≡ [] → (file.stored devices.file).content ≡ None
+    → fetch.server ≡ server_with fetch.settings message
+    → WasFetchedLocally link disk file drop fetch.now (account_over InMaildir fetch.settings devices) fetch.server
+    fetch.report (account_over InMaildir fetch.settings fetch.after) fetch.wire
+    → HadMemory disk file drop devices fetch
+    → (fetch.report.outcome ≡ Ended)
+    × (copies (disk.maildir fetch.after.store).files (stem_of (digits_of fetch.settings) message.uid)
+    ≡ message.text ∷ [])

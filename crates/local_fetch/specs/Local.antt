@@ -5,7 +5,7 @@ use Rattle.pop3_wire.specs.{
   Link.Link,
   World.{Message, IsMessage},
 }
-use Rattle.fetch_runs.specs.{Sessions.Served, Calls.WasMade}
+use Rattle.fetch_runs.specs.Sessions.{Served}
 use Rattle.mail_store.specs.declared.{
   maildir.disk.MaildirDisk.Ghosts as DiskGhosts,
   file.flat_file.FlatFile.Ghosts as FileGhosts,
@@ -16,7 +16,7 @@ use Rattle.pop3_server.specs.{
   ServerMachine.{Machine, greeting_line},
   LoopLink.Loop,
 }
-use Rattle.fetch_session.specs.{Account.Holding, declared.report.Report.Report, Target.is_sound}
+use Rattle.fetch_session.specs.{Account.Holding, declared.report.Report.Report, Target.is_sound, Visits.WasMade}
 
 -- a link that wasn't used yet
 abbrev pub unused : Link

@@ -1,22 +1,31 @@
 //! Laws over what sessions over a server in memory did.
-ghost use Rattle.fetch_runs.specs.{Calls.{CallsKeepPromises, MboxCallsKeepPromises}, Headline.{Headline, MboxHeadline}};
+ghost use Rattle.fetch_runs.specs.{
+  Calls.{CallsKeepPromises, MboxCallsKeepPromises},
+  Headline.{Headline, MboxHeadline},
+  Progress.{CallsGetFar, MboxCallsGetFar},
+};
 ghost use Rattle.local_fetch.specs.{
   Fetches.{FetchesFromNothing, FetchesKeepPromises, FirstFetchesKeepMail, MboxFetchesFromNothing},
   Fetches.{MboxFetchesKeepPromises, MboxFirstFetchesKeepMail},
-  Good.GoodFetchesStoreAll,
+  Good.{GoodFetchesStoreAll, OneIsStored},
+  Kills.KillsHappen,
+  Losses.{BytesAreTaken, LossesHappen, MboxLossesHappen, NamesAreTaken},
+  Moves.MailIsMoved,
 };
 
 use crate::loop_wire::LoopWire;
 use fetch_runs::{
-    calls_keep_promises, empty_accounts_hold, headline, mbox_calls_keep_promises, mbox_headline,
-    mbox_starts,
+    calls_get_far, calls_keep_promises, empty_accounts_hold, headline, mbox_calls_get_far,
+    mbox_calls_keep_promises, mbox_headline, mbox_starts,
 };
 use fetch_session::good_sessions_store_all;
 use folder_store::HostFile;
 use mail_store::{FlatFile, MaildirDisk, MemoryFile, MemoryMaildir};
 use pop3_server::{Maildrop, MemoryDrop};
 use pop3_wire::Wire;
-use test_devices::{Fused, FusedWire, MemoryFolder, MemoryFolderMaildir};
+use test_devices::{
+    Fused, FusedWire, MemoryFolder, MemoryFolderMaildir, files_are_lost, mail_is_lost,
+};
 
 /// A law: kills are events of the statement. A program that is killed makes no more calls, so it leaves, but for a
 /// draft in `tmp`, what the same call of `session` leaves over a link and devices of which each, from some call on,
@@ -31,11 +40,32 @@ pub fn killed_calls_keep_promises<W: Wire, D: MaildirDisk, F: FlatFile>()
     ensures in_order { Headline ⟦<FusedWire<W> as Wire>⟧ ⟦<Fused<D> as MaildirDisk>⟧ ⟦<Fused<F> as FlatFile>⟧ }
     ensures mbox_in_order { MboxHeadline ⟦<FusedWire<W> as Wire>⟧ ⟦<Fused<D> as MaildirDisk>⟧
         ⟦<Fused<F> as FlatFile>⟧ }
+    ensures progress { CallsGetFar ⟦<FusedWire<W> as Wire>⟧ ⟦<Fused<D> as MaildirDisk>⟧
+        ⟦<Fused<F> as FlatFile>⟧ }
+    ensures mbox_progress { MboxCallsGetFar ⟦<FusedWire<W> as Wire>⟧ ⟦<Fused<D> as MaildirDisk>⟧
+        ⟦<Fused<F> as FlatFile>⟧ }
+    ensures happen { KillsHappen W.Wire D.MaildirDisk F.FlatFile ⟦<FusedWire<W> as Wire>⟧
+        ⟦<Fused<D> as MaildirDisk>⟧ ⟦<Fused<F> as FlatFile>⟧ }
 {
     calls_keep_promises::<FusedWire<W>, Fused<D>, Fused<F>>();
     mbox_calls_keep_promises::<FusedWire<W>, Fused<D>, Fused<F>>();
     headline::<FusedWire<W>, Fused<D>, Fused<F>>();
     mbox_headline::<FusedWire<W>, Fused<D>, Fused<F>>();
+    calls_get_far::<FusedWire<W>, Fused<D>, Fused<F>>();
+    mbox_calls_get_far::<FusedWire<W>, Fused<D>, Fused<F>>();
+}
+
+/// A law: losses of power happen, over folders in memory: whatever account they show, and whatever may be left of its
+/// files, some event that the statement reads as a loss leaves it. From some state it takes a file, and from another
+/// bytes of an mboxrd file.
+pub fn losses_happen<'a>()
+    ensures maildir { LossesHappen ⟦<MemoryFolderMaildir as MaildirDisk>⟧ ⟦<HostFile<'a, MemoryFolder> as FlatFile>⟧ }
+    ensures taken { NamesAreTaken ⟦<MemoryFolderMaildir as MaildirDisk>⟧ ⟦<HostFile<'a, MemoryFolder> as FlatFile>⟧ }
+    ensures mbox { MboxLossesHappen ⟦<HostFile<'a, MemoryFolder> as FlatFile>⟧ }
+    ensures mbox_taken { BytesAreTaken ⟦<HostFile<'a, MemoryFolder> as FlatFile>⟧ }
+{
+    mail_is_lost();
+    files_are_lost();
 }
 
 /// A law: all that `calls_keep_promises` promises holds of any list of calls of
@@ -57,6 +87,16 @@ pub fn first_fetches_keep_mail<M: Maildrop, D: MaildirDisk, F: FlatFile>()
     empty_accounts_hold();
 }
 
+/// A law, for mail that is moved from one Maildir into another, or from any maildrop: after any list of calls of
+/// [`fetch_local`](crate::fetch_local), cut or not, which may delete, each message is still in the maildrop, or is gone
+/// from it and held or was taken away. After a call that ended, had no limits and met no name of what can't be opened,
+/// each is in one file, with its text, or was taken away.
+pub fn mail_is_moved<M: Maildrop, D: MaildirDisk, F: FlatFile>()
+    ensures { MailIsMoved ⟦<LoopWire<M> as Wire>⟧ D.MaildirDisk F.FlatFile M.Maildrop }
+{
+    fetches_keep_promises::<M, D, F>();
+}
+
 /// A law: all that `mbox_calls_keep_promises` promises holds of any list of calls of
 /// [`fetch_local`](crate::fetch_local).
 pub fn mbox_fetches_keep_promises<M: Maildrop, D: MaildirDisk, F: FlatFile>()
@@ -75,9 +115,9 @@ pub fn mbox_first_fetches_keep_mail<M: Maildrop, D: MaildirDisk, F: FlatFile>()
 }
 
 /// The statement can hold: in memory, from a Maildir without files and no record on, all that it promises holds
-/// of any list of calls of [`fetch_local`](crate::fetch_local). The only premises are that the ids of a
-/// server's mail are distinct and name one text, which ends in LF, and that fewer calls lacked memory than can
-/// be counted.
+/// of any list of calls of [`fetch_local`](crate::fetch_local). The only premises of a call are that the ids of its
+/// server's mail are legal and distinct, and its texts end in LF, and that fewer calls lacked memory than can be
+/// counted.
 pub fn promises_hold_in_memory()
     ensures { FetchesFromNothing ⟦<LoopWire<MemoryDrop> as Wire>⟧ ⟦<MemoryMaildir as MaildirDisk>⟧
         ⟦<MemoryFile as FlatFile>⟧ ⟦<MemoryDrop as Maildrop>⟧ }
@@ -126,4 +166,16 @@ pub fn all_is_stored_in_memory()
         ⟦<MemoryFile as FlatFile>⟧ ⟦<MemoryDrop as Maildrop>⟧ }
 {
     good_fetches_store_all::<MemoryDrop, MemoryMaildir, MemoryFile>();
+}
+
+/// The good path can happen: from an empty Maildir in memory and no record on, a call to a new server in memory that
+/// has one message ends, and the message is in one file, with its text. The only premises are that the message's id
+/// is legal, its text ends in LF and is within the limits, that afterwards the Maildir is as each in memory is (its
+/// folders are there, and all in it can be opened), and that memory doesn't run out.
+pub fn one_is_stored_in_memory()
+    ensures { OneIsStored ⟦<LoopWire<MemoryDrop> as Wire>⟧ ⟦<MemoryMaildir as MaildirDisk>⟧
+        ⟦<MemoryFile as FlatFile>⟧ ⟦<MemoryDrop as Maildrop>⟧ }
+{
+    good_fetches_store_all::<MemoryDrop, MemoryMaildir, MemoryFile>();
+    first_fetches_keep_mail::<MemoryDrop, MemoryMaildir, MemoryFile>();
 }

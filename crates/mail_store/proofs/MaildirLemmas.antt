@@ -2,13 +2,15 @@
 use Rattle.std.{
   proofs.Common.{◌≡◌, ℕ, zero, suc, ◌/◌, ◌%◌, ◌==◌, ◌<◌, Bool, true, false, List, [], ◌∷◌, ◌++◌, length, get_or, slice_index, refl, sym},
   proofs.Common.{ap, ◌∙◌, arith, Ok, inl, inr, All, not, codes, ◌+◌, take, map, String, string_bytes, HoldsAt, Contains, IsPermutation},
-  proofs.Common.{◌||◌, ◌&&◌, bytes_eq, below_more},
+  proofs.Common.{◌||◌, ◌&&◌, bytes_eq, below_more, ◌≢◌, Vec, subst},
   proofs.lemmas.{Bool.{cases_lt, cond_both, Decides.nat_tests}, Simd.map-map, Cmp.nat_list_eq_equiv, Map.Views.any-filter_same},
   proofs.lemmas.List.{append-nil, append_cancel_left, take_all, take-append-le, get_or-take, get_or_past, length-take, append_assoc},
-  proofs.lemmas.List.{length-map, get_or-map, take_more, Elements.{All-nil, All-cons, All-append, All-from_recursion, Contains-get_or}},
+  proofs.lemmas.List.{length-map, get_or-map, map-append, take_more},
+  proofs.lemmas.List.Elements.{All-nil, All-cons, All-append, All-from_recursion, All-map, Contains-get_or},
+  proofs.lemmas.List.Elements.{Contains-append_left, Contains-append_right},
   proofs.lemmas.List.Sums.{AllPass-from_list_all, fails_before_first, position_or_len_is, prefix_len-le-length},
   proofs.lemmas.List.Folds.{prefix_len-append, list_any-append, list_any_at, Any-from_list_any},
-  proofs.lemmas.List.Sorted.{IsPermutation-refl, list_any-IsPermutation},
+  proofs.lemmas.List.Sorted.{IsPermutation-refl, IsPermutation-append_right, IsPermutation-middle, list_any-IsPermutation},
   proofs.lemmas.Slice.Eq.bytes_eq-Decides,
   proofs.Math.Bool.{or-false, or-true},
   specs.{List.{AllPass, AllZip, before_first, filter, position_or_len, list_any}, Fmt.{decimal, digits, digits_onto, digit_glyph}},
@@ -26,11 +28,11 @@ use Rattle.mail_terms.{
 use Rattle.mail_store.specs.{
   FileName.{account_text, is_comma, is_lower_hex_digit, name_of, stem, stem_of, IsAccountText, mail_file, names_id, is_held, is_odd},
   Maildir.{AllNamed, AreReached, AreTheirs, File, IsNamed, IsThere, IsWithout, Maildir, MayBeNamed, IsAsDurable, WereTaken, bases_told},
-  Maildir.{name_in, names_of, with_file},
+  Maildir.{memory_file, name_in, names_of, with_file},
   declared.maildir.disk.Folder.{Folder, TheVariants.{New, Cur}},
   MemoryMaildir.{MemoryMail, files_of_folder, shown},
   Held.{AreAmong, FoundDurable, HasDurable, HasStem, HasStems, any_name, flags_asked, flags_of, flags_sought, is_sought, odd_flags},
-  Held.sought_among,
+  Held.{ToldAreOdd, sought_among},
   Loss.{with_flushed, flushed_by, is_among},
 }
 
@@ -151,6 +153,10 @@ stem_name_of account uid size h =
 pub base_marked : (name marks : List ℕ) → base (name ++ 58 ∷ marks) ≡ base name
 base_marked name marks = before_first-cut is_colon name marks 58 refl
 
+pub base_suffixed : (name suffix : List ℕ) → slice_index suffix 0 ≡ 58 → base (name ++ suffix) ≡ base name
+base_suffixed name [] first = absurd (omega (arith, first))
+base_suffixed name (colon ∷ marks) first = rw first (base_marked name marks)
+
 -- a base has no more to cut off
 pub base_base : (name : List ℕ) → base (base name) ≡ base name
 base_base name = all_before _ _ (λ k d inside.
@@ -203,14 +209,49 @@ filter_named [] _ = refl
 filter_named (f ∷ files) all = rw (all.0, filter_named files all.1) refl
 
 -- names of a folder are those of files that are shown
-pub theirs_of : {Z : Type 0} (known : MemoryMail) (folder : Folder) (names : List (String Z)) → known.maildir.files ≡ map shown known.files
-    → map string_bytes names ≡ names_of (files_of_folder known folder) → AreTheirs known.maildir.files names
+pub theirs_of : {Z : Type 0} (known : MemoryMail) (folder : Folder) (names : List (String Z))
+    → known.maildir.files ≡ map shown (known.in_cur ++ known.in_new) → map string_bytes names ≡ names_of (files_of_folder known folder)
+    → AreTheirs known.maildir.files names
 unfolding AreTheirs
-theirs_of known New names all told = λ k d inside.
+theirs_of known folder names all told = λ k d inside.
     let name = get_or names k d in
-    rw (all, filter_named (map shown known.files) (all_shown known.files)) (rw (bases_shown names known.files told) at
-    (Contains-map (λ n. base (string_bytes n)) names name (Contains-get_or names k d inside)))
-theirs_of _ Cur names _ told = λ k d inside. absurd (omega (arith, inside, ap length told, length-map names string_bytes))
+    rw (all, filter_named (map shown (known.in_cur ++ known.in_new)) (all_shown (known.in_cur ++ known.in_new)))
+    (in_both folder (rw (bases_shown names (files_of_folder known folder) told) at
+    (Contains-map (λ n. base (string_bytes n)) names name (Contains-get_or names k d inside))))
+  where
+    both : names_of (map shown (known.in_cur ++ known.in_new)) ≡ names_of (map shown known.in_cur) ++ names_of (map shown known.in_new)
+    both = ap names_of (map-append shown known.in_cur known.in_new) ∙ map-append name_in (map shown known.in_cur) (map shown known.in_new)
+
+    in_both : {x : List ℕ} (folder : Folder) → Contains (names_of (map shown (files_of_folder known folder))) x
+        → Contains (names_of (map shown (known.in_cur ++ known.in_new))) x
+    in_both {x} New there = rw both (Contains-append_right (names_of (map shown known.in_cur)) (names_of (map shown known.in_new)) x there)
+    in_both {x} Cur there = rw both (Contains-append_left (names_of (map shown known.in_cur)) (names_of (map shown known.in_new)) x there)
+
+-- a file went to the other folder, and is shown as before
+pub moved_shown : (cur front back : List File) (f g : File) → shown g ≡ shown f
+    → IsPermutation (map shown (cur ++ (front ++ f ∷ back))) (map shown ((cur ++ g ∷ []) ++ (front ++ back)))
+moved_shown cur front back f g same =
+    let was : map shown (cur ++ (front ++ f ∷ back)) ≡ map shown cur ++ (map shown front ++ shown f ∷ map shown back) =
+    map-append shown cur (front ++ f ∷ back) ∙ ap (λ (fs : List File). map shown cur ++ fs) (map-append shown front (f ∷ back)) in
+    let is : map shown ((cur ++ g ∷ []) ++ (front ++ back)) ≡ map shown cur ++ shown f ∷ (map shown front ++ map shown back) =
+    ap (map shown) (append_assoc cur (g ∷ []) (front ++ back)) ∙ map-append shown cur (g ∷ (front ++ back))
+    ∙ ap (λ (fs : List File). map shown cur ++ shown g ∷ fs) (map-append shown front back)
+    ∙ ap (λ (s : File). map shown cur ++ s ∷ (map shown front ++ map shown back)) same in
+    rw (was, is) (IsPermutation-append_right (map shown cur) _ _ (IsPermutation-middle (map shown front) (shown f) (map shown back)))
+
+-- ---- names that are looked up
+
+-- if nothing reads as the text, it isn't among what is read
+pub not_read : {A : Type 0} (read : A → List ℕ) (xs : List A) (text : List ℕ) → All (λ x. read x ≢ text) xs
+    → Contains (map read xs) text → ⊥
+not_read read xs text none c = All-map (λ t. t ≢ text) read xs none c.0 text c.1 c.2
+
+-- the name of a file that was found is among the names
+pub named_there : {Z Y : Type 0} (pairs : List (String Z × Vec ℕ Y)) (name : List ℕ) (k : ℕ) (p : String Z × Vec ℕ Y) → k < length pairs
+    → p ≡ get_or pairs k p → string_bytes p.0 ≡ name → Contains (names_of (map memory_file pairs)) name
+named_there pairs name k p below is named =
+    subst (λ (names : List (List ℕ)). Contains names name) (sym (map-map name_in memory_file pairs))
+    (rw named at (Contains-map (λ q. string_bytes q.0) pairs p (k, below, sym is)))
 
 -- ---- files that readers took away
 
@@ -257,13 +298,15 @@ without_more [] _ _ f g one are = (one, are)
 without_more (h ∷ gone) _ _ f g one (front, back, are, is) = (f ∷ front, back, (reaches_same f, are), without_more gone _ _ f g one is)
 
 pub none_taken : (maildir : Maildir) → WereTaken maildir maildir
-none_taken maildir = record { gone = []; files = reached_same _; odd = λ none. refl; is = rw append-nil refl }
+none_taken maildir = record { gone = []; files = reached_same _; odd = λ new cur. refl; told = λ none. refl; is = rw append-nil refl }
 
 pub taken_on : (a b c : Maildir) → WereTaken a b → WereTaken b c → WereTaken a c
 taken_on a b c first next = record {
   gone = first.gone ++ next.gone;
   files = without_on _ _ _ _ _ first.files next.files;
-  odd = λ none. next.odd (ap (λ (m : Maildir). m.there.new) first.is ∙ none) ∙ first.odd none;
+  odd = λ new cur. next.odd (ap (λ (m : Maildir). m.there.new) first.is ∙ new)
+      (ap (λ (m : Maildir). m.there.cur) first.is ∙ cur) ∙ first.odd new cur;
+  told = λ none. next.told (ap (λ (m : Maildir). m.there.new) first.is ∙ none) ∙ first.told none;
   is = cc (append_assoc a.taken first.gone next.gone);
 }
 
@@ -290,16 +333,17 @@ sought_all account maildir items _ all = rw all (each items)
 -- ---- odd names
 
 odd_by_names : {Z : Type 0} (account : List ℕ) (maildir : Maildir) (found : List ℕ → Bool) (names : List (String Z))
-    → ((q : List ℕ) → found q ≡ any_name account q names) → map string_bytes names ≡ maildir.odd
+    → ((q : List ℕ) → found q ≡ any_name account q names) → map string_bytes names ≡ maildir.told → ToldAreOdd maildir
     → (uid : List ℕ) → found (encode_lower uid) ≡ is_odd account maildir uid
-odd_by_names account maildir found names texts told uid =
+odd_by_names account maildir found names texts told are uid =
     texts (encode_lower uid) ∙ sym (any_map (names_id account uid) string_bytes names) ∙ ap (list_any (names_id account uid)) told
+    ∙ sym (list_any-IsPermutation (names_id account uid) maildir.odd maildir.told are)
 
 -- the digits in the stems of these names show which of the items are odd
 pub odd_found : {Z : Type 0} (account : List ℕ) (maildir : Maildir) (items : List Item) (found : List ℕ → Bool) (names : List (String Z))
-    → ((q : List ℕ) → found q ≡ any_name account q names) → map string_bytes names ≡ maildir.odd
+    → ((q : List ℕ) → found q ≡ any_name account q names) → map string_bytes names ≡ maildir.told → ToldAreOdd maildir
     → map (λ (item : Item). found (encode_lower item.uid)) items ≡ odd_flags account maildir items
-odd_found account maildir _ found names texts told = simp (odd_by_names account maildir found names texts told)
+odd_found account maildir _ found names texts told are = simp (odd_by_names account maildir found names texts told are)
 
 -- ---- the names with some stems
 
@@ -463,6 +507,7 @@ taken_flushed stems old left taken = record {
   gone = taken.gone;
   files = reached_without _ _ _ _ taken.files (reached_flushed _ _);
   odd = taken.odd;
+  told = taken.told;
   is = cc;
 }
 

@@ -2,7 +2,7 @@
 use Rattle.std.specs.{
   Prelude.{◌≡◌, ℕ, List, map, Bool, true, false, Result, Ok, Err, Vec, ◌⊎◌, OnOk, [], ◌∷◌, ◌++◌, ◌&&◌, bytes_eq, ◌<◌},
   Prelude.{String, string_bytes, Contains, HoldsAt, IsPermutation, if◌then◌else◌},
-  List.{filter, list_any},
+  List.{AllByRecursion, filter, list_any},
   Borrow.Bor,
   Ordering.nat_cmp,
   Cmp.Lexicographic.slice_cmp,
@@ -45,11 +45,16 @@ abbrev pub flags_asked : Bool → List ℕ → Maildir → List Item → List Bo
 flags_asked all account maildir items flags =
     if all then flags_of account maildir items else flags_sought account maildir items flags
 
--- these flags were found: `new` and `cur` are there, and each name is durable; `new` or `cur` isn't there; or a call
--- was refused
+-- the names that the device tells as odd are exactly those that what can't be opened bears, in any order
+abbrev pub ToldAreOdd : Maildir → Type 0
+ToldAreOdd maildir = IsPermutation maildir.odd maildir.told
+
+-- these flags were found: `new` and `cur` are there, each name is durable, and the odd ones are told; `new` or `cur`
+-- isn't there; or a call was refused
 abbrev pub FindsFlags : {B : Type 0} → List Bool → Maildir → Result (Vec Bool B) StoreFault → Maildir → Type 0
 FindsFlags found old (Ok flags) new =
     (flags.items ≡ found) × (new ≡ old) × (old.there.new ≡ true) × (old.there.cur ≡ true) × AllNamed old.files
+    × ToldAreOdd old
 FindsFlags found old (Err Missing) new = ((old.there.new ≡ false) ⊎ (old.there.cur ≡ false)) × (new ≡ old)
 FindsFlags found old (Err Refused) new = new ≡ maildir_refused old
 FindsFlags found old (Err NotMbox) new = ⊥
@@ -88,11 +93,13 @@ abbrev pub AreAmong : {A : Type 0} → List (String A) → List (List ℕ) → L
 AreAmong stems names told =
     (order : List (List ℕ)) × IsPermutation names order × (told ≡ filter (is_sought stems) order)
 
--- `names_among`: the name of each file of `new` and `cur` that has one of these stems, in any order; each is durable
+-- `names_among`: the name of each file of `new` and `cur` that has one of these stems, in any order; each is durable.
+-- The odd names that it tells are exactly those with these stems that what can't be opened bears there, in any order
 abbrev pub ListsAmong : {A B C : Type 0} → Maildir → List (String A) → Result (Vec (String B) C) StoreFault → Maildir
     → Type 0
 ListsAmong old stems (Ok names) new = (old.there.new ≡ true) × (old.there.cur ≡ true)
     × AreAmong stems (names_of old.files) (bases_told names.items) × AllNamed old.files × (new ≡ old)
+    × ToldAreOdd old × AllByRecursion (λ name. is_sought stems name ≡ true) old.odd
 ListsAmong old stems (Err Missing) new = ((old.there.new ≡ false) ⊎ (old.there.cur ≡ false)) × (new ≡ old)
 ListsAmong old stems (Err Refused) new = new ≡ maildir_refused old
 ListsAmong old stems (Err fault) new = ⊥

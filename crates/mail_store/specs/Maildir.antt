@@ -33,7 +33,9 @@ pub record Folders : Type 0 where
 
 -- what is known of a Maildir: its folders, the files of `new` and `cur` together in the order in which they came, the
 -- file that is being written in `tmp`, how many calls were refused, the files that readers took away, in the order in
--- which that was seen (until then each is among the files), and names that what can't be opened bears: it is no file
+-- which that was seen (until then each is among the files), the names that what can't be opened bears in `new` and
+-- `cur` (it is no file; a folder in `cur` doesn't count: no delivery needs its name), of those that were sought when
+-- each of the two was last listed, and which such names the device tells
 pub record Maildir : Type 0 where
   pub there : Folders
   pub files : List File
@@ -41,6 +43,7 @@ pub record Maildir : Type 0 where
   pub failures : ℕ
   pub taken : List File
   pub odd : List (List ℕ)
+  pub told : List (List ℕ)
 
 abbrev pub name_in : File → List ℕ
 name_in f = f.name
@@ -133,12 +136,19 @@ IsPart files part = (gone : List File) × IsWithout files gone part
 abbrev pub with_files : List File → Maildir → Maildir
 with_files files old = record old { files = files }
 
--- readers were seen to have taken some files away: what is missing is what `taken` gained; and other names may be odd
+-- readers were seen to have taken some files away: what is missing is what `taken` gained; and folders that are there
+-- were perhaps listed, which shows what can't be opened in them
 pub record WereTaken (old left : Maildir) : Type 0 where
   pub gone : List File
   pub files : IsWithout old.files gone left.files
-  pub odd : old.there.new ≡ false → left.odd ≡ old.odd
-  pub is : left ≡ record old { files = left.files; taken = old.taken ++ gone; odd = left.odd }
+  pub odd : old.there.new ≡ false → old.there.cur ≡ false → left.odd ≡ old.odd
+  pub told : old.there.new ≡ false → left.told ≡ old.told
+  pub is : left ≡ record old {
+    files = left.files;
+    taken = old.taken ++ gone;
+    odd = left.odd;
+    told = left.told;
+  }
 
 -- this holds of what readers have left since names were last told; names and bytes of other files may have been flushed
 abbrev pub AfterTaking : Maildir → (Maildir → Type 0) → Type 0

@@ -1,19 +1,39 @@
 -- What is known of a Maildir in memory, and what its calls do: nobody else is at work.
-use Rattle.std.specs.Prelude.{◌≡◌, ℕ, List, [], ◌∷◌, ◌++◌, Option, Some, None, Result, Ok, Err}
+use Rattle.std.specs.Prelude.{
+  ◌≡◌,
+  ℕ,
+  List,
+  [],
+  ◌∷◌,
+  ◌++◌,
+  Bool,
+  true,
+  false,
+  Option,
+  Some,
+  None,
+  Result,
+  Ok,
+  Err,
+  ◌⊎◌,
+  Contains,
+  IsPermutation,
+}
 use Rattle.mail_store.specs.{
   declared.{fault.StoreFault.StoreFault, maildir.disk.Folder.{Folder, TheVariants.{New, Cur}}},
-  Maildir.{Draft, File, Maildir, draft, file, mail, with_file},
+  Maildir.{Draft, File, Maildir, draft, file, mail, names_of, with_file},
 }
 
--- what it is as a Maildir, and its files, all in `new`, by their whole names
+-- what it is as a Maildir, and the files of each folder by their whole names
 pub record MemoryMail : Type 0 where
   pub maildir : Maildir
-  pub files : List File
+  pub in_new : List File
+  pub in_cur : List File
 
 -- the files of a folder
 abbrev pub files_of_folder : MemoryMail → Folder → List File
-files_of_folder known New = known.files
-files_of_folder known Cur = []
+files_of_folder known New = known.in_new
+files_of_folder known Cur = known.in_cur
 
 -- a file as a Maildir shows it: without its marks
 abbrev pub shown : File → File
@@ -43,6 +63,31 @@ abbrev pub SettlesAlone : {T : Type 0} → MemoryMail → List ℕ → Result T 
 SettlesAlone old name (Ok done) new = (d : Draft) → old.maildir.begun ≡ Some d
     → new ≡ record old {
       maildir = with_file old.maildir (mail name d.content);
-      files = old.files ++ file name d.content ∷ [];
+      in_new = old.in_new ++ file name d.content ∷ [];
     }
 SettlesAlone old name (Err fault) new = ChangesOnlyCount (with_begun None old) new
+
+-- ---- what it does in a reader's place
+
+-- a file of this name left `new` for `cur`, where it has another name, which no file had there; as a Maildir it has the
+-- same files
+pub record IsMoved (old : MemoryMail) (name moved : List ℕ) (new : MemoryMail) : Type 0 where
+  pub front : List File
+  pub content : List ℕ
+  pub back : List File
+  pub was : old.in_new ≡ front ++ file name content ∷ back
+  pub free : Contains (names_of old.in_cur) moved → ⊥
+  pub same : IsPermutation old.maildir.files new.maildir.files
+  pub is : new ≡ record old {
+    maildir = record old.maildir { files = new.maildir.files };
+    in_new = front ++ back;
+    in_cur = old.in_cur ++ file moved content ∷ [];
+  }
+
+-- `move_to_cur`: it was moved; no file of `new` has the name, or one of `cur` has the name that would result; or memory
+-- ran out
+abbrev pub MovesToCur : {E : Type 0} → MemoryMail → List ℕ → List ℕ → Result Bool E → MemoryMail → Type 0
+MovesToCur old name moved (Ok true) new = IsMoved old name moved new
+MovesToCur old name moved (Ok false) new =
+    (new ≡ old) × ((Contains (names_of old.in_new) name → ⊥) ⊎ Contains (names_of old.in_cur) moved)
+MovesToCur old name moved (Err fault) new = new ≡ old

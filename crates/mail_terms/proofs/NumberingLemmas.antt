@@ -1,8 +1,14 @@
 -- The table of places and the list of numbers.
 use Rattle.std.proofs.{
-  Common.{◌≡◌, ℕ, ◌<◌, ◌≤◌, ◌+◌, ◌-◌, List, Option, Some, None, true, false, length, get_or, set, is_some, sym, ◌∙◌, ap, inl, inr, arith},
-  Common.below_more,
-  lemmas.{Bool.cases_eq, Option.{none-some, same_Some}, List.{get_or-set_same, get_or-set_other, length-set, get_or_default}},
+  Common.{◌≡◌, ◌≢◌, ℕ, ◌<◌, ◌≤◌, ◌+◌, ◌-◌, List, [], ◌∷◌, All, Option, Some, None, true, false, length, get_or, set, is_some, sym},
+  Common.{◌∙◌, ap, inl, inr, arith, below_more},
+  Math.Dec.eqb,
+  lemmas.{
+    Bool.{cases_eq, eqb-true, Decides.Decides-eqb},
+    List.{get_or-set_same, get_or-set_other, length-set, get_or_default, Elements.All-cons, Kept.AllPairs-cons, Folds.Any-from_list_any},
+    Map.{Made.IsDistinct-from_AllPairs, Steps.length-le_from_distinct_below},
+    Option.{none-some, same_Some},
+  },
 }
 use Rattle.mail_terms.specs.Numbering.{IsNumbering, HasPlaces, IsOrderOf}
 
@@ -68,3 +74,15 @@ numbering_from_places n xs slots places has count full = (
         ∙ full (get_or xs place 0 - 1) (omega (arith, has.within place inside))));
   },
 )
+
+-- a numbering of 1 to n has no more than n numbers
+pub few_numbers : (n : ℕ) (xs : List ℕ) → IsNumbering n xs → length xs ≤ n
+few_numbers n xs numbering =
+    let apart = AllPairs-cons (λ x y. x ≢ y) 0 xs (λ k d inside same. omega (arith, numbering.within k d inside, same))
+    numbering.distinct in
+    let within : All (λ q. q < n + 1) (0 ∷ xs) = All-cons (λ q. q < n + 1) 0 xs (omega arith)
+    (λ k d inside. omega (arith, numbering.within k d inside)) in
+    let most = length-le_from_distinct_below (0 ∷ xs) (n + 1) (IsDistinct-from_AllPairs Decides-eqb (0 ∷ xs) apart)
+    (λ q found. let (k, x, inside, is, same) = Any-from_list_any (eqb q) (0 ∷ xs) found in
+    omega (arith, within k x inside, is, eqb-true q x same)) in
+    omega (arith, most)

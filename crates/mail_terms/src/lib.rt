@@ -18,7 +18,7 @@ pub use bytes::Bytes;
 pub use credential::is_credential;
 pub use failure_count::FailureCount;
 pub use id_set::{IdSet, id_text};
-pub use listing::{Listing, ListingFault, MESSAGE_LIMIT, ScanRow, UidRows};
+pub use listing::{Listing, ListingFault, MESSAGE_LIMIT, ScanRow, UidRow, UidRows};
 pub use maildir_name::base;
 pub use numeral::read_numeral;
 pub use text::cut_text;

@@ -13,6 +13,21 @@ use thiserror::Error;
 /// How many messages a listing may hold.
 pub const MESSAGE_LIMIT: u32 = 100_000;
 
+/// A row of UIDL's answer.
+#[derive(Drop)]
+pub struct UidRow {
+    pub number: u32,
+    pub uid: Vec<u8>,
+}
+
+impl Model for UidRow {
+    ghost use Rattle.mail_terms.specs.Listing.{UidRow as ListedId};
+
+    ghost Value = { ListedId };
+
+    ghost view = { λ row. record { number = row.number; uid = row.uid.items } };
+}
+
 /// A row of LIST's answer. The size is in octets.
 #[derive(Clone, Copy)]
 pub struct ScanRow {
@@ -60,7 +75,7 @@ struct Span {
     end: u32,
 }
 
-/// A row of UIDL's answer: its number, and where its id is.
+/// The number of a row of UIDL's answer, and where its id is.
 #[derive(Clone, Copy)]
 struct UidPlace {
     number: u32,
@@ -186,32 +201,57 @@ fn items_at(
     Ok(items)
 }
 
-impl Listing {
+impl UidRows {
     ghost use Rattle.mail_terms.specs.Listing.{Agree, Joins};
 
-    /// The listing of `n` messages from the rows of UIDL and LIST, which may come in any order.
+    /// The listing of `n` messages from these rows and those of LIST, which may come in any order.
     /// TooMany if `n` is above `MESSAGE_LIMIT`, which is tested first; Disagree if either list isn't
     /// the numbers 1 to `n`, each once. Time and memory grow in proportion to the rows and to `n`,
     /// since each list's places go into a table of `n` slots.
-    pub fn join(
-        alloc: Global,
-        n: u32,
-        uids: UidRows,
-        sizes: &[ScanRow],
-    ) -> Result<Listing, ListingFault>
-        ensures joined { IfOk result (Joins n uids sizes.now) }
+    pub fn join(self, alloc: Global, n: u32, sizes: &[ScanRow]) -> Result<Listing, ListingFault>
+        ensures joined { IfOk result (Joins n self sizes.now) }
         ensures legal { IfOk result (λ listing. All (λ item. IsLegalId item.uid) listing) }
-        ensures disagree { result ≡ Err ListingFault.Disagree → ¬ Agree n uids sizes.now }
+        ensures disagree { result ≡ Err ListingFault.Disagree → ¬ Agree n self sizes.now }
         ensures too_many { (result ≡ Err ListingFault.TooMany) ↔ (message_limit < n) }
     {
         if n > MESSAGE_LIMIT {
             return Err(ListingFault::TooMany);
         }
-        let UidRows { ids, places } = uids;
+        let UidRows { ids, places } = self;
         let uid_places = places_in_order(alloc, n, &uid_numbers(alloc, &places)?)?;
         let size_places = places_in_order(alloc, n, &size_numbers(alloc, sizes)?)?;
         let items = items_at(alloc, &places, &uid_places, sizes, &size_places)?;
         Ok(Listing { ids, items })
+    }
+}
+
+impl Listing {
+    ghost use Rattle.mail_terms.specs.Listing.{Agree, Joins};
+
+    /// As `UidRows::join`, for rows that each have their own id.
+    pub fn join(
+        alloc: Global,
+        n: u32,
+        uids: &[UidRow],
+        sizes: &[ScanRow],
+    ) -> Result<Listing, ListingFault>
+        requires { All (λ row. IsLegalId row.uid) uids.now }
+        ensures joined { IfOk result (Joins n uids.now sizes.now) }
+        ensures legal { IfOk result (λ listing. All (λ item. IsLegalId item.uid) listing) }
+        ensures disagree { result ≡ Err ListingFault.Disagree → ¬ Agree n uids.now sizes.now }
+        ensures too_many { (result ≡ Err ListingFault.TooMany) ↔ (message_limit < n) }
+    {
+        if n > MESSAGE_LIMIT {
+            return Err(ListingFault::TooMany);
+        }
+        if uids.len() > n as usize {
+            return Err(ListingFault::Disagree);
+        }
+        let mut rows = UidRows::new(alloc);
+        for row in uids {
+            rows.push(row.number, &row.uid)?;
+        }
+        rows.join(alloc, n, sizes)
     }
 
     /// How many messages there are.

@@ -27,7 +27,7 @@ fn joined(
     ensures err { IfErr result (λ fault. ((fault ≡ ClientFault.ListingsDisagree) × (Agree count uids sizes.now → ⊥))
         ⊎ (fault ≡ ClientFault.NoMemory)) }
 {
-    match Listing::join(alloc, count, uids, sizes) {
+    match uids.join(alloc, count, sizes) {
         Ok(listing) => Ok(listing),
         Err(ListingFault::Disagree) => Err(ClientFault::ListingsDisagree),
         Err(ListingFault::TooMany) => Err(ClientFault::TooMany),

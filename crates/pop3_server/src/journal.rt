@@ -24,6 +24,14 @@ pub trait Journal {
     fn note(&mut self, event: Event);
 }
 
+/// A journal that keeps nothing.
+#[derive(Clone, Copy)]
+pub struct NoJournal;
+
+impl Journal for NoJournal {
+    fn note(&mut self, _event: Event) {}
+}
+
 /// The event between one state and the next, if the maildrop refused `refused` calls in between.
 pub fn event_of(old: &State, new: &State, refused: u64) -> Option<Event>
     ensures { result ≡ event_of old.now new.now refused }

@@ -27,5 +27,5 @@ pub use laws::{only_quit_closes, quit_leaves_few};
 pub use maildrop::{DropFault, Entry, MAX_COUNT, MAX_SIZE, Maildrop};
 pub use memory_drop::MemoryDrop;
 pub use server::{Answer, Server};
-pub use serving::serve_and_note;
+pub use serving::{serve, serve_and_note};
 pub use size::{SizeCount, size_of};

@@ -5,7 +5,7 @@ ghost use Rattle.pop3_server.specs.{ServerMachine.is_open, Serving.{SendsAnswer,
 
 use crate::fault::ServerFault;
 use crate::intake::{Intake, NextLine};
-use crate::journal::Journal;
+use crate::journal::{Journal, NoJournal};
 use crate::maildrop::Maildrop;
 use crate::server::{Begun, Server};
 use crate::text_part::{ROOM, TextBody};
@@ -151,4 +151,16 @@ pub fn serve_and_note<D: Maildrop, W: Wire, J: Journal>(
             }
         }
     }
+}
+
+/// Does what `serve_and_note` does, without a journal.
+pub fn serve<D: Maildrop, W: Wire>(server: &mut Server<D>, wire: &mut W) -> Result<(), ServerFault>
+    requires { is_open server.old.state ≡ true }
+    ensures counted { CountsRefusal is_server_refusal (W.history wire.old) result (W.history wire.new) }
+    ensures removals { is_open server.new.state ≡ true
+        → (D.mail server.new.drop).removals ≡ (D.mail server.old.drop).removals }
+    ensures served { WhereSound W.sound W.leads_to wire.old wire.new
+        (ServedLines D.sound D.mail server.old (W.history wire.old) result server.new (W.history wire.new)) }
+{
+    serve_and_note(server, wire, &mut NoJournal)
 }

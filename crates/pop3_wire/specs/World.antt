@@ -1,6 +1,6 @@
 -- What a server's maildrop holds over time (RFC 1939, sections 4 and 7).
-use Rattle.std.specs.{Prelude.{ℕ, not, List, take, map, bytes_eq}, List.{filter, list_any, AllByRecursion}}
-use Rattle.mail_terms.specs.{Distinct.AreDistinct, UniqueId.IsLegalId, Text.IsWhole}
+use Rattle.std.specs.{Prelude.{ℕ, not, List, take, bytes_eq}, List.{filter, list_any}}
+use Rattle.mail_terms.specs.{UniqueId.IsLegalId, Text.IsWhole}
 
 -- a message: its unique id, its size in octets as a listing gives it, and its text, whose lines end at LF
 pub record Message : Type 0 where
@@ -12,11 +12,6 @@ pub record Message : Type 0 where
 pub record IsMessage (message : Message) : Type 0 where
   pub legal : IsLegalId message.uid
   pub whole : IsWhole message.text
-
--- all messages that ever come, in order of arrival
-pub record IsWorld (all : List Message) : Type 0 where
-  pub messages : AllByRecursion IsMessage all
-  pub distinct : AreDistinct (map (λ (m : Message). m.uid) all)
 
 -- the maildrop after this many messages have come, without those that are gone
 abbrev pub maildrop_of : List Message → ℕ → List (List ℕ) → List Message

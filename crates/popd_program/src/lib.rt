@@ -13,4 +13,5 @@ mod waits;
 mod warning;
 mod words;
 
+pub use rehearsal::rehearsal_drop;
 pub use start::obey_command_line;

@@ -7,8 +7,8 @@ use crate::account::Account;
 use crate::failure::{Failure, failure_of, tell};
 use crate::telling::{Peer, Telling, tell_listening};
 use crate::visit::{Quit, Visit, serve_account};
-use crate::waits::{BoundedStream, LoginJournal};
-use crate::warning::{Warning, warn};
+use crate::waits::{BoundedStream, HoldingJournal, LoginJournal, Pause, may_be_connection};
+use crate::warning::{Warning, warn, warn_of_network};
 use crate::words::Words;
 use folder_drop::MaildirDrop;
 use pop3_server::{Maildrop, Server, ServerFault, serve_and_note};
@@ -93,9 +93,15 @@ where
         verbose,
         peer: Peer::StandardInput,
     };
+    let mut journal = HoldingJournal {
+        rt: system.rt,
+        journal: &mut telling,
+        is_connection: may_be_connection(system.rt),
+        pause: Pause::first(),
+    };
     let (input, output) = ((streams.0, STANDARD_INPUT), (streams.1, STANDARD_OUTPUT));
     let mut wire = link_over(system, input, output);
-    serve_account(system, account, maildir, &mut telling, &mut wire)
+    serve_account(system, account, maildir, &mut journal, &mut wire)
 }
 
 /// What a connection that was just accepted needs besides the Maildir: its account, its stream and the
@@ -143,6 +149,7 @@ where
     let mut journal = LoginJournal {
         stream: &bounded,
         journal: telling,
+        pause: Pause::first(),
     };
     let (input, output) = ((&bounded, name.as_str()), (&bounded, name.as_str()));
     let mut wire = link_over(system, input, output);
@@ -199,6 +206,7 @@ pub fn listen<'a, 'b, R>(
     address: &'a str,
     words: &Words,
     account: &Account,
+    tells_reasons: bool,
     maildir: MaildirDrop<'b, R>,
 ) -> Result<(Option<Quit>, MaildirDrop<'b, R>), Failure<'a>>
 where
@@ -215,6 +223,9 @@ where
     };
     if words.verbose {
         tell_listening(system.rt, &listener);
+    }
+    if tells_reasons {
+        warn_of_network(system.rt, &listener);
     }
     let mut quit = None;
     let mut left = maildir;

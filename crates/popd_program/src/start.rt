@@ -39,6 +39,7 @@ fn arguments<R: Env + AllocGlobal>(rt: &R) -> Result<Vec<String>, Failure<'stati
 fn run<'a, R, I, O>(
     system: &System<'_, R>,
     words: &'a Words,
+    tells_reasons: bool,
     streams: (I, O),
 ) -> Result<(), Failure<'a>>
 where
@@ -60,7 +61,14 @@ where
     let maildir = account.open_maildir(system)?;
     match &words.listen {
         Some(address) => {
-            listen(system, address.as_str(), words, &account, maildir)?;
+            listen(
+                system,
+                address.as_str(),
+                words,
+                &account,
+                tells_reasons,
+                maildir,
+            )?;
             Ok(())
         }
         None => Ok(serve_maildir(system, account, words.verbose, streams, maildir).served?),
@@ -102,9 +110,10 @@ where
     ensures { result ≤ 2 }
 {
     let refusals = Refusals::new(rt.alloc(), if words.trace { Some(err) } else { None });
-    let outcome = run(&System::new(rt, &refusals), words, streams);
+    let tells_reasons = words.verbose || err.is_terminal();
+    let outcome = run(&System::new(rt, &refusals), words, tells_reasons, streams);
     let status = end(rt, outcome);
-    if words.verbose || err.is_terminal() {
+    if tells_reasons {
         tell_reason(rt, outcome, &refusals);
     }
     status

@@ -1,13 +1,15 @@
 //! How long a client may keep the server waiting (RFC 1939, section 3, asks for at least ten minutes
 //! after the login).
-ghost use Rattle.std.specs.{Prelude.{◌≡◌, ◌≤◌, ◌+◌, ◌*◌, length, IfOk, IfSome, None}, Duration.as_nanos};
+ghost use Rattle.std.specs.{Prelude.{◌≡◌, ◌≤◌, ◌<◌, ◌+◌, ◌*◌, length, min, IfOk, IfSome, None}, Duration.as_nanos};
 
 use pop3_server::{Event, Journal};
 use std::cell::Cell;
 use std::io::{self, ErrorKind, Read, Write};
 use std::net::TcpStream;
-use std::rt::Clock;
+use std::os::unix::fs::FileTypeExt;
+use std::rt::{Clock, Files};
 use std::time::{Duration, Instant};
+use std::{fs, thread};
 
 /// How long a client that is logged in may send nothing, or take nothing of an answer.
 const IDLE_SECONDS: u64 = 600;
@@ -22,6 +24,60 @@ const MOST_TRIES: u64 = IDLE_SECONDS / TRY_SECONDS;
 /// How long a client has to log in, all reads and writes together, so that a client that sends an
 /// octet now and then can't keep the next one out for longer.
 const LOGIN_SECONDS: u64 = 60;
+
+/// How long the answer to a client's first refused password is held back, and how long any is at most, so that nobody
+/// can try many.
+const FIRST_PAUSE_SECONDS: u64 = 1;
+
+const MOST_PAUSE_SECONDS: u64 = 8;
+
+/// Where the system tells what standard input is.
+const STANDARD_INPUT: &str = "/proc/self/fd/0";
+
+/// How long the answer to the next refused password of a connection is held back: twice as long each time.
+#[derive(Clone, Copy)]
+pub struct Pause {
+    seconds: u64,
+}
+
+impl Pause {
+    /// That of the first one.
+    pub fn first() -> Pause
+        ensures { result.seconds ≡ 1 }
+    {
+        Pause {
+            seconds: FIRST_PAUSE_SECONDS,
+        }
+    }
+
+    /// How long it lasts; the next one lasts longer.
+    pub fn take(&mut self) -> Duration
+        ensures length { as_nanos result ≡ self.old.seconds * 1_000_000_000 }
+        ensures doubles { self.old.seconds < 8 → self.new.seconds ≡ 2 * self.old.seconds }
+        ensures most { 8 ≤ self.old.seconds → self.new.seconds ≡ self.old.seconds }
+    {
+        let pause = Duration::from_secs(self.seconds);
+        if self.seconds < MOST_PAUSE_SECONDS {
+            self.seconds *= 2;
+        }
+        pause
+    }
+}
+
+/// A pause that ends with the time to log in, of which so much is left.
+fn cut_pause(pause: Duration, left: Duration) -> Duration
+    ensures { as_nanos result ≡ min (as_nanos pause) (as_nanos left) }
+{
+    pause.min(left)
+}
+
+/// Whether standard input may be a connection, of which the system says that it is a socket.
+pub fn may_be_connection<R: Files>(rt: &R) -> bool {
+    match fs::metadata(rt, STANDARD_INPUT) {
+        Ok(found) => found.file_type().is_socket(),
+        Err(_) => true,
+    }
+}
 
 /// How much of the time to log in is left after this much has passed, if any.
 fn left_after(passed: Duration) -> Option<Duration>
@@ -63,6 +119,13 @@ impl<'a, R: Clock> BoundedStream<'a, R> {
         match left_after(taken.elapsed(self.rt)?) {
             Some(left) => Ok(Some(left)),
             None => Err(ErrorKind::TimedOut.into()),
+        }
+    }
+
+    /// Waits before the answer to a refused password, no longer than the client has to log in.
+    fn hold_back(&self, pause: Duration) {
+        if let Ok(Some(left)) = self.left() {
+            thread::sleep(self.rt, cut_pause(pause, left));
         }
     }
 
@@ -116,11 +179,13 @@ impl<'a, R: Clock> Write for &BoundedStream<'a, R> {
     }
 }
 
-/// A journal that passes events on to another one, and lifts the limit on logging in after the login.
+/// A journal that passes events on to another one, holds back the answers to refused passwords, and lifts the limit on
+/// logging in after the login.
 #[derive(Drop)]
 pub struct LoginJournal<'a, R, J: Journal + Drop> {
     pub stream: &'a BoundedStream<'a, R>,
     pub journal: &'a mut J,
+    pub pause: Pause,
 }
 
 impl<'a, R: Clock, J: Journal + Drop> Journal for LoginJournal<'a, R, J> {
@@ -129,5 +194,29 @@ impl<'a, R: Clock, J: Journal + Drop> Journal for LoginJournal<'a, R, J> {
             let _ = self.stream.end_login();
         }
         self.journal.note(event);
+        if let Event::Refused = event {
+            self.stream.hold_back(self.pause.take());
+        }
+    }
+}
+
+/// A journal that passes events on to another one, and holds back the answers to refused passwords on a connection
+/// whose time isn't limited here.
+#[derive(Drop)]
+pub struct HoldingJournal<'a, R, J: Journal + Drop> {
+    pub rt: &'a R,
+    pub journal: &'a mut J,
+    pub is_connection: bool,
+    pub pause: Pause,
+}
+
+impl<'a, R: Clock, J: Journal + Drop> Journal for HoldingJournal<'a, R, J> {
+    fn note(&mut self, event: Event) {
+        self.journal.note(event);
+        if let Event::Refused = event {
+            if self.is_connection {
+                thread::sleep(self.rt, self.pause.take());
+            }
+        }
     }
 }

@@ -5,8 +5,8 @@ use mail_terms::is_credential;
 use pop3_server::ServerFault;
 use std::alloc::AllocError;
 use std::fmt::{self, Display, Formatter, Write};
-use std::net::SocketAddr;
-use std::os::unix::fs::PermissionsExt;
+use std::net::{SocketAddr, TcpListener};
+use std::os::unix::fs::{MetadataExt, PermissionsExt};
 use std::rt::Files;
 use system_calls::System;
 
@@ -21,6 +21,10 @@ pub enum Warning<'a> {
     NoPassword,
     /// Others than its owner may read or write the password file of this name.
     OpenPassfile(&'a str),
+    /// The Maildir of this name belongs to the user of this number, and the superuser serves it.
+    OtherOwner(&'a str, u32),
+    /// Who connects to this address may do so over a network.
+    Network(SocketAddr),
     /// A message's file, or a folder of the Maildir, can't be read.
     Unread(&'a str),
     /// A message wasn't removed, since the other file of its name may be another one.
@@ -66,6 +70,13 @@ pub fn warn<R: Eprint>(rt: &R, warning: Warning<'_>) {
             "popd: warning: others than its owner may read or write {}",
             Shown(path)
         )),
+        Warning::OtherOwner(path, owner) => rt.eprintln(format_args!(
+            "popd: warning: {} belongs to user {owner}: run popd as that user, by User= in a unit or runuser(1)",
+            Shown(path)
+        )),
+        Warning::Network(address) => rt.eprintln(format_args!(
+            "popd: warning: {address} isn't loopback: password and mail go over the network unencrypted"
+        )),
         Warning::Unread(path) => {
             rt.eprintln(format_args!("popd: warning: cannot read {}", Shown(path)))
         }
@@ -80,10 +91,24 @@ pub fn warn<R: Eprint>(rt: &R, warning: Warning<'_>) {
     };
 }
 
-/// Whether there is a folder at this path.
+/// Whether this process may open the files of all users.
+fn is_superuser() -> bool {
+    libc::geteuid() == 0
+}
+
+/// Whether there is a folder at this path. The superuser follows no link to one.
 fn is_folder<R: Files + AllocGlobal>(system: &System<'_, R>, path: &str) -> bool {
     match system.stat(path) {
+        Ok(metadata) if is_superuser() => metadata.is_dir() && !is_link(system, path),
         Ok(metadata) => metadata.is_dir(),
+        Err(_) => false,
+    }
+}
+
+/// Whether there is a link at this path.
+fn is_link<R: Files + AllocGlobal>(system: &System<'_, R>, path: &str) -> bool {
+    match system.lstat(path) {
+        Ok(metadata) => metadata.is_symlink(),
         Err(_) => false,
     }
 }
@@ -119,6 +144,27 @@ fn warn_of_folder<R: Files + AllocGlobal + Eprint>(
     Ok(())
 }
 
+/// Warns the superuser of a Maildir that belongs to somebody else.
+fn warn_of_owner<R: Files + AllocGlobal + Eprint>(system: &System<'_, R>, maildir: &str) {
+    if !is_superuser() {
+        return;
+    }
+    if let Ok(metadata) = system.stat(maildir) {
+        if metadata.uid() != 0 {
+            warn(system.rt, Warning::OtherOwner(maildir, metadata.uid()));
+        }
+    }
+}
+
+/// Warns of an address that isn't loopback.
+pub fn warn_of_network<R: Eprint>(rt: &R, listener: &TcpListener) {
+    if let Ok(address) = listener.local_addr() {
+        if !address.ip().to_canonical().is_loopback() {
+            warn(rt, Warning::Network(address));
+        }
+    }
+}
+
 /// Warns of all that may keep this account from being served properly.
 pub fn warn_of<R: Files + AllocGlobal + Eprint>(
     system: &System<'_, R>,
@@ -132,6 +178,7 @@ pub fn warn_of<R: Files + AllocGlobal + Eprint>(
         }
     }
     let maildir = account.maildir.as_str();
+    warn_of_owner(system, maildir);
     warn_of_folder(system, maildir, "new")?;
     warn_of_folder(system, maildir, "cur")
 }

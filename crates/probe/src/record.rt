@@ -74,7 +74,7 @@ fn time_join(rt: &HostRuntime, count: u32) -> Result<Listing> {
     let uids = uid_rows(rt.alloc(), count / 2, count)?;
     let sizes = scan_rows(rt.alloc(), count)?;
     let start = rt.process_cpu_time()?;
-    let listing = Listing::join(rt.alloc(), count, uids, &sizes)?;
+    let listing = uids.join(rt.alloc(), count, &sizes)?;
     tell(rt, "join", start)?;
     Ok(listing)
 }

@@ -26,7 +26,7 @@ fn listing_of(alloc: Global, count: u32) -> Result<Listing> {
     for number in 1..=count {
         add_row(&mut uids, number, id_of(alloc, number)?.as_bytes())?;
     }
-    Ok(Listing::join(alloc, count, uids, &scan_rows(alloc, count)?)?)
+    Ok(uids.join(alloc, count, &scan_rows(alloc, count)?)?)
 }
 
 // The types of real stores are large: they are made, and then moved into functions over any store, where they

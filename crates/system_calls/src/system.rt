@@ -1,4 +1,6 @@
 //! The machine's file system, whose refused calls are noted.
+ghost use Rattle.std.specs.Prelude.{◌≡◌};
+
 use crate::noted::Noted;
 use crate::refusals::Refusals;
 use std::alloc::Global;
@@ -59,10 +61,21 @@ impl<'a, R: Files + AllocGlobal> System<'a, R> {
 
     /// Gives a file another name.
     pub fn rename(&self, from: &str, to: &str) -> io::Result<()> {
-        let answer = fs::rename(self.rt, from, to);
+        self.between("rename", from, to, fs::rename(self.rt, from, to))
+    }
+
+    /// Gives a file a second name. Fails if something has that.
+    pub fn link(&self, from: &str, to: &str) -> io::Result<()> {
+        self.between("link", from, to, fs::hard_link(self.rt, from, to))
+    }
+
+    // The answer of a call with two paths.
+    fn between(&self, call: &str, from: &str, to: &str, answer: io::Result<()>) -> io::Result<()>
+        ensures { result ≡ answer }
+    {
         if answer.is_err() {
             if let Ok(paths) = format!(in self.rt.alloc(); "{from} to {to}") {
-                return self.refusals.noted("rename", paths.as_str(), answer);
+                return self.refusals.noted(call, paths.as_str(), answer);
             }
             self.refusals.forget();
         }

@@ -1,3 +1,5 @@
+mod EndlessLemmas
+mod Losses
 mod MemoryFiles
 mod MemoryMail
 mod OddNames

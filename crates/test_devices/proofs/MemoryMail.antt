@@ -50,15 +50,18 @@ around (f ∷ files) (suc i) x y below is =
     let (front, back, was, now) = around files i x y (omega (arith, below)) is in
     (stored_file f ∷ front, back, ap (λ (ss : List MailFile). stored_file f ∷ ss) was, ap (λ (ss : List MailFile). stored_file f ∷ ss) now)
 
-abbrev pub memory_dirs : List StoredMail → Bool → Bool → List File → List (List ℕ) → List (List ℕ) → Directories
-memory_dirs files new_rests cur_rests taken odd_new odd_cur = record {
+abbrev pub memory_dirs : List StoredMail → Bool → Bool → List File → (closed odd_new odd_cur : List (List ℕ)) → Directories
+memory_dirs files new_rests cur_rests taken closed odd_new odd_cur = record {
   there = all_there;
   entries = map stored_file files;
   new_rests = new_rests;
   cur_rests = cur_rests;
   taken = taken;
+  closed_new = closed;
+  closed_cur = closed;
   odd_new = odd_new;
   odd_cur = odd_cur;
+  dirs_cur = [];
 }
 
 -- the folder rests only if it did, and the file wasn't and isn't there
@@ -79,25 +82,27 @@ not_in folder s t was is = record {
 pub file_moves : ((old : Directories) (front back : List MailFile) (s t : MailFile) (new : Directories)
     → OneMoves old front back s t new → Moved old new)
     → (files : List StoredMail) (i : ℕ) (x y : StoredMail) (new new' cur cur' : Bool) (taken : List File)
-    (odd_new odd_cur : List (List ℕ)) → i < length files
+    (closed odd_new odd_cur : List (List ℕ)) → i < length files
     → x ≡ get_or files i x
     → MovesFile (stored_file x) (stored_file y) → Rested new' new x.is_new y.is_new → Rested cur' cur (not x.is_new) (not y.is_new)
-    → Moved (memory_dirs files new cur taken odd_new odd_cur) (memory_dirs (set files i y) new' cur' taken odd_new odd_cur)
-file_moves one files i x y new new' cur cur' taken odd_new odd_cur below is moves in_new in_cur =
+    → Moved (memory_dirs files new cur taken closed odd_new odd_cur) (memory_dirs (set files i y) new' cur' taken closed odd_new odd_cur)
+file_moves one files i x y new new' cur cur' taken closed odd_new odd_cur below is moves in_new in_cur =
     let (front, back, before, after) = around files i x y below is in
     one _ front back (stored_file x) (stored_file y) _ (record {
       there = refl;
       taken = refl;
       odd_new = refl;
       odd_cur = refl;
+      dirs_cur = refl;
       before = before;
       after = after;
       moves = moves;
       rests = rests_of;
     })
   where
-    rests_of : (folder : Folder) → rests_in folder (memory_dirs (set files i y) new' cur' taken odd_new odd_cur) ≡ true
-        → (rests_in folder (memory_dirs files new cur taken odd_new odd_cur) ≡ true) × RestsFile folder (stored_file x) (stored_file y)
+    rests_of : (folder : Folder) → rests_in folder (memory_dirs (set files i y) new' cur' taken closed odd_new odd_cur) ≡ true
+        → (rests_in folder (memory_dirs files new cur taken closed odd_new odd_cur) ≡ true)
+        × RestsFile folder (stored_file x) (stored_file y)
     rests_of New quiet = let r = in_new quiet in (r.0, not_in New (stored_file x) (stored_file y) r.1 r.2)
     rests_of Cur quiet = let r = in_cur quiet in (r.0, not_in Cur (stored_file x) (stored_file y) r.1 r.2)
 

@@ -19,6 +19,7 @@ module _ (n m : ℕ) (below : n < greatest_count) where
     gone = taken.gone;
     files = taken.files;
     odd = taken.odd;
+    told = taken.told;
     is =
         ap (λ (m : Maildir). record m { failures = n }) taken.is;
   }
@@ -35,7 +36,8 @@ module _ (n m : ℕ) (below : n < greatest_count) where
     lists_among : {C : Type 0} (stems : List (String C)) (left : Maildir) (r : Result (Vec (String A) B) StoreFault)
         → Tallies (refuses is_refusal r) n m → ListsAmong left stems r new
         → ListsAmong (record left { failures = n }) stems r (record new { failures = m })
-    lists_among stems left (Ok names) count (in_new, in_cur, told, named, same) = (in_new, in_cur, told, named, rw (same, count) refl)
+    lists_among stems left (Ok names) count (in_new, in_cur, among, named, same, told, sought) =
+        (in_new, in_cur, among, named, rw (same, count) refl, told, sought)
     lists_among stems left (Err Missing) count (lacks, same) = (lacks, rw (same, count) refl)
     lists_among stems left (Err Refused) count same = rw (same, counted_one count) refl
     lists_among stems left (Err _) count never = absurd never

@@ -1,4 +1,6 @@
+pub mod Endless
 pub mod LinkFuse
+pub mod Losses
 pub mod MemoryFolder
 pub mod MemoryFolders
 pub mod Script

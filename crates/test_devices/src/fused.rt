@@ -138,7 +138,7 @@ impl<D: MaildirDisk> MaildirDisk for Fused<D> {
 
     fn odd(&self) -> &[String]
         ensures { FusedIsSound D.sound self.now
-            → map string_bytes result.now ≡ (D.maildir (device_of self.now)).odd }
+            → map string_bytes result.now ≡ (D.maildir (device_of self.now)).told }
     {
         self.device.odd()
     }

@@ -1,16 +1,20 @@
-//! Devices for tests: links with prepared replies or with a fuse, stores with a fuse, and folders in memory that lose
-//! their power.
+//! Devices for tests: links with prepared or endless replies or with a fuse, stores with a fuse, and folders in
+//! memory that lose their power.
 #![tactic(auto)]
 
+mod endless_wire;
 mod fused;
 mod fused_wire;
+mod laws;
 mod memory_folder;
 mod memory_folders;
 mod new_file;
 mod script_wire;
 
+pub use endless_wire::EndlessWire;
 pub use fused::Fused;
 pub use fused_wire::FusedWire;
+pub use laws::{files_are_lost, mail_is_lost};
 pub use memory_folder::{Left, MemoryFolder};
 pub use memory_folders::{MailLeft, MemoryFolderMaildir, MemoryFolders, ReaderStep};
 pub use new_file::MemoryNewFile;

@@ -8,8 +8,9 @@ ghost use Rattle.std.specs.{
 ghost use Rattle.mail_terms.specs.MaildirName.{base};
 ghost use Rattle.mail_store.specs.{Maildir.all_there, Loss.is_among};
 ghost use Rattle.folder_store.specs.{
-  MailCalls.{entry_flushed_by, file_names, named_by, names_sought, names_told, odd_names, without_taken},
-  MailFolders.{Moved, MovesFile, entries_in, is_in, is_taken, is_told, name_at, touches},
+  MailCalls.{IsFree, ShowsOdd, entry_flushed_by, file_names, named_by, names_sought, names_told, odd_names},
+  MailCalls.without_taken,
+  MailFolders.{Moved, MovesFile, closed_in, entries_in, is_in, is_taken, is_told, name_at, touches},
   MailPower.{EntriesLeftAs, LosesMail},
 };
 ghost use Rattle.test_devices.specs.MemoryFolders.{list_of, stored_file};
@@ -61,8 +62,8 @@ pub enum MailLeft {
 }
 
 /// The folders of a Maildir in memory, and a reader that moves files, or takes them away, before each call. A call is
-/// refused only if memory runs out. What can't be opened is told beside the files, if names with some stems are sought,
-/// unless a file has its name.
+/// refused only if memory runs out, or something has the name that a file is to be put under. What can't be opened
+/// is told beside the files, if names with some stems are sought, unless a file has its name.
 #[derive(Drop)]
 pub struct MemoryFolders {
     alloc: Global,
@@ -83,7 +84,7 @@ pub struct MemoryFolders {
 pub type MemoryFolderMaildir = FolderMaildir<MemoryFolders, MemoryNewFile>;
 
 impl Model for MemoryFolders {
-    ghost use Rattle.std.specs.Prelude.{map, string_bytes};
+    ghost use Rattle.std.specs.Prelude.{[], map, string_bytes};
     ghost use Rattle.mail_store.specs.Maildir.{all_there};
     ghost use Rattle.folder_store.specs.MailFolders.{Directories, files_at};
     ghost use Rattle.test_devices.specs.MemoryFolders.{stored_file};
@@ -96,8 +97,11 @@ impl Model for MemoryFolders {
       new_rests = m.new_rests;
       cur_rests = m.cur_rests;
       taken = files_at (map stored_file m.taken.items);
+      closed_new = map string_bytes m.obstacles.items;
+      closed_cur = map string_bytes m.obstacles.items;
       odd_new = map string_bytes m.odd_new.items;
       odd_cur = map string_bytes m.odd_cur.items;
+      dirs_cur = [];
     } };
 }
 
@@ -405,8 +409,11 @@ impl MemoryFolders {
           new_rests = false;
           cur_rests = false;
           taken = [];
+          closed_new = [];
+          closed_cur = [];
           odd_new = [];
           odd_cur = [];
+          dirs_cur = [];
         } }
     {
         MemoryFolders {
@@ -452,7 +459,11 @@ impl MemoryFolders {
 
     /// Puts what can't be opened into both folders, under this name.
     pub fn obstruct(&mut self, name: &str) -> Result<(), AllocError>
-        ensures { self.new ≡ self.old }
+        ensures ok { OnOk result (self.new ≡ record self.old {
+          closed_new = self.old.closed_new ++ name.now ∷ [];
+          closed_cur = self.old.closed_cur ++ name.now ∷ [];
+        }) }
+        ensures err { OnErr result (self.new ≡ self.old) }
     {
         let name = String::from_str(self.alloc, name)?;
         self.obstacles.push(name)?;
@@ -465,9 +476,11 @@ impl MemoryFolders {
         folder: Folder,
         sought: Sought<'_>,
     ) -> Result<(Vec<String>, Vec<String>), AllocError>
-        ensures { IfOk result (λ listed. names_told sought.entry (map string_bytes listed.1.items)
+        ensures files { IfOk result (λ listed. names_told sought.entry (map string_bytes listed.1.items)
             (map string_bytes listed.0.items)
             ≡ names_sought sought.entry (map name_at (entries_in folder self.now.entries))) }
+        ensures odd { IfOk result (λ listed. ShowsOdd sought.entry (map name_at (entries_in folder self.now.entries))
+            (closed_in folder self.now) (map string_bytes listed.1.items) (map string_bytes listed.0.items)) }
     {
         let names = names_in(self.alloc, &self.files, folder)?;
         let Sought::Stems(stems) = sought else {
@@ -487,7 +500,7 @@ impl MemoryFolders {
             ++ odd_names self.now.odd_cur (map string_bytes in_cur.items)) }
         ensures files { IfOk result (λ found. map string_bytes found.files.items
             ≡ file_names self.now.odd_new (map string_bytes in_new.items)
-            ++ file_names self.now.odd_cur (map string_bytes in_cur.items)) }
+            ++ file_names (self.now.dirs_cur ++ self.now.odd_cur) (map string_bytes in_cur.items)) }
     {
         let (mut odd, mut files) = parted(self.alloc, in_new, &self.odd_new)?;
         let (mut odd_cur, mut in_cur) = parted(self.alloc, in_cur, &self.odd_cur)?;
@@ -547,6 +560,18 @@ impl MemoryFolders {
         file.is_gone = true;
         self.new_rests = still_rests(self.new_rests, was_new, was_new);
         self.cur_rests = still_rests(self.cur_rests, !was_new, !was_new);
+    }
+
+    // A copy of a name, if nothing in `new` has it.
+    fn free_name(&self, name: &str) -> Result<Option<String>, AllocError>
+        ensures { IfOk result (λ free. IfSome free (λ copy.
+            (string_bytes copy ≡ name.now) × IsFree name.now self.now)) }
+    {
+        let names = names_in(self.alloc, &self.files, Folder::New)?;
+        if is_one_of(&names, name) || is_one_of(&self.obstacles, name) {
+            return Ok(None);
+        }
+        Ok(Some(String::from_str(self.alloc, name)?))
     }
 
     // Leaves out the files that the reader took away. If memory runs out, nothing changes.
@@ -615,14 +640,6 @@ impl MailFolders for MemoryFolders {
         }
     }
 
-    fn has(&mut self, name: &str) -> Result<bool, StoreFault> {
-        self.let_reader_move();
-        let Ok(names) = names_in(self.alloc, &self.files, Folder::New) else {
-            return Err(StoreFault::Refused);
-        };
-        Ok(is_one_of(&names, name))
-    }
-
     fn flush_files(&mut self, stems: &[String], _may_miss: bool) -> Result<bool, StoreFault> {
         self.let_reader_move();
         match flushed_files(self.alloc, &self.files, stems) {
@@ -641,7 +658,7 @@ impl MailFolders for MemoryFolders {
 
     fn put(&mut self, file: MemoryNewFile, name: &str) -> Result<(), StoreFault> {
         self.let_reader_move();
-        let Ok(name) = String::from_str(self.alloc, name) else {
+        let Ok(Some(name)) = self.free_name(name) else {
             return Err(StoreFault::Refused);
         };
         let file = StoredMail {

@@ -3,11 +3,15 @@
 #![tactic(auto)]
 
 #[cfg(test)]
+mod fetch_session_tests;
+#[cfg(test)]
 mod folder_store_tests;
 #[cfg(test)]
 mod local_fetch_tests;
 #[cfg(test)]
 mod no_memory_tests;
+#[cfg(test)]
+mod pop3_server_tests;
 #[cfg(test)]
 mod pop3_wire_tests;
 #[cfg(test)]

@@ -1,5 +1,5 @@
 //! The texts of a Maildir's messages: their files read, whole or in parts, and removed.
-ghost use Rattle.std.specs.Prelude.{◌≡◌, ◌≤◌, ◌<◌, ◌+◌, ◌^◌, length, IfOk};
+ghost use Rattle.std.specs.Prelude.{◌≡◌, ◌≤◌, ◌<◌, ◌+◌, ◌^◌, length, IfOk, IfSome, Some};
 
 use crate::maildir_drop::{MaildirDrop, OpenText};
 use std::io::{self, ErrorKind, Read, Seek, SeekFrom};
@@ -7,6 +7,18 @@ use std::random::RandomSource;
 use std::rt::Files;
 use std::time::Clock;
 use system_calls::Noted;
+
+/// The file that is open, if it is that of a place and was read up to the octet `start`. From its first octet on each
+/// file is read anew.
+fn going_on<F: Drop>(kept: Option<OpenText<F>>, place: usize, start: usize) -> Option<OpenText<F>>
+    ensures same { IfSome result (λ text. kept ≡ Some text) }
+    ensures there { IfSome result (λ text. (text.place ≡ place) × (text.read ≡ start) × (0 < start)) }
+{
+    match kept {
+        Some(text) if start > 0 && text.place == place && text.read == start => Some(text),
+        _ => None,
+    }
+}
 
 /// The error for a file that isn't there.
 fn missing() -> io::Error {
@@ -48,6 +60,7 @@ impl<'a, R: Files + Clock + RandomSource + AllocGlobal + Clone + Drop> MaildirDr
     /// Opens the file at a place of the last listing, to be read from the octet `start` on.
     fn open_text(&mut self, i: usize, start: usize) -> io::Result<OpenText<Noted<'a, R::File>>>
         ensures same { self.new ≡ self.old }
+        ensures there { IfOk result (λ text. (text.place ≡ i) × (text.read ≡ start)) }
     {
         let mut file = self.open_file(i)?;
         if start > 0 {
@@ -58,6 +71,17 @@ impl<'a, R: Files + Clock + RandomSource + AllocGlobal + Clone + Drop> MaildirDr
             read: start,
             file,
         })
+    }
+
+    /// The file at a place, to be read from the octet `start` on: the one that is open, if it was read up to there.
+    fn text_at(&mut self, i: usize, start: usize) -> io::Result<OpenText<Noted<'a, R::File>>>
+        ensures same { self.new ≡ self.old }
+        ensures there { IfOk result (λ text. (text.place ≡ i) × (text.read ≡ start)) }
+    {
+        match going_on(self.open.take(), i, start) {
+            Some(text) => Ok(text),
+            None => self.open_text(i, start),
+        }
     }
 
     /// Reads a part of the file at a place. The file stays open until its end is read, so that
@@ -72,16 +96,7 @@ impl<'a, R: Files + Clock + RandomSource + AllocGlobal + Clone + Drop> MaildirDr
         ensures within { IfOk result (λ n. n ≤ length piece.new) }
         ensures countable { IfOk result (λ n. start + n < 2 ^ 64) }
     {
-        let mut text = match self.open.take() {
-            Some(open) => {
-                if start > 0 && open.place == i && open.read == start {
-                    open
-                } else {
-                    self.open_text(i, start)?
-                }
-            }
-            None => self.open_text(i, start)?,
-        };
+        let mut text = self.text_at(i, start)?;
         let n = text.file.read(piece)?;
         let Some(read) = start.checked_add(n) else {
             return Err(io::Error::from(ErrorKind::FileTooLarge));

@@ -23,7 +23,7 @@ pub enum Folder {
 ///
 /// What can't be opened, as a pipe or a file without rights, is no file: `names_among` doesn't tell it. See `odd`.
 pub trait MaildirDisk {
-    ghost use Rattle.std.specs.Prelude.{◌≡◌, ℕ, List, false, true, IfErr, IsSome, Ok, OnErr, OnOk, Some, None, map};
+    ghost use Rattle.std.specs.Prelude.{◌≡◌, false, true, IfErr, IsSome, Ok, OnErr, OnOk, Some, None, map};
     ghost use Rattle.std.specs.Prelude.{string_bytes};
     ghost use Rattle.mail_terms.specs.FailureCount.{Tallies, refuses};
     ghost use Rattle.mail_store.specs.{Fault.{is_refusal, IsDeviceFault}, Held.ListsAmong, Loss.Flushes};
@@ -57,7 +57,7 @@ pub trait MaildirDisk {
 
     /// The names that the last `names_among` found to be borne by what can't be opened, of those that it sought.
     fn odd(&self) -> &[String]
-        ensures { sound self.now → map string_bytes result.now ≡ (maildir self.now).odd };
+        ensures { sound self.now → map string_bytes result.now ≡ (maildir self.now).told };
 
     /// Whether a folder is there: Missing if it isn't, else Refused. Its names aren't read or flushed.
     fn check(&mut self, folder: Folder) -> Result<(), StoreFault>

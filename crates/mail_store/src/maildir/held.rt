@@ -9,7 +9,7 @@ ghost use Rattle.mail_store.specs.{
   FileName.{stem, is_held},
   Maildir.{AfterTaking, Maildir},
   Held.{AreById, Finds, FindsAsked, FindsDurable, FindsFlags, HasStems, any_name, flags_of, flags_sought, has_text},
-  Held.{odd_flags, sought_among},
+  Held.{ToldAreOdd, odd_flags, sought_among},
 };
 
 use crate::account::AccountId;
@@ -177,15 +177,15 @@ pub fn held<D: MaildirDisk>(
     held_of(alloc, disk, account, listing, &all)
 }
 
-/// Whether what can't be opened bears a name of each item's id, as the last call that told names found. The flags are
-/// in the listing's order.
+/// Whether what can't be opened bears a name of each item's id, after a call that told which are held. The flags are in
+/// the listing's order.
 pub fn odd_flags<D: MaildirDisk>(
     alloc: Global,
     disk: &D,
     account: &AccountId,
     listing: &Listing,
 ) -> Result<Vec<bool>, AllocError>
-    ensures flags { D.sound disk.now
+    ensures flags { D.sound disk.now → ToldAreOdd (D.maildir disk.now)
         → IfOk result (λ flags. flags.items ≡ odd_flags account.now (D.maildir disk.now) listing.now) }
     ensures by_ids { IfOk result (λ flags. AreById listing.now flags.items) }
 {

@@ -1,6 +1,10 @@
 //! A Maildir in memory.
 
-ghost use Rattle.std.specs.{Prelude.{◌≡◌, map, IfOk}, List.filter, String.string_bytes};
+ghost use Rattle.std.specs.{
+  Prelude.{◌≡◌, ◌<◌, ◌↔◌, ◌++◌, length, map, Contains, HoldsAt, IfOk, IfSome, IsSome, OnOk},
+  List.filter,
+  String.string_bytes,
+};
 ghost use Rattle.mail_store.specs.{Held.is_sought, Maildir.{names_of, memory_file}};
 
 use crate::fault::StoreFault;
@@ -11,18 +15,19 @@ use mail_terms::FailureCount;
 use std::alloc::{AllocError, Global};
 use std::marker::Model;
 
-/// A Maildir in memory, whose files are all in `new`. As long as the program runs, no loss of power reaches it:
-/// all of them count as durable. Below the greatest count it refuses a call only if memory runs out.
+/// A Maildir in memory. As long as the program runs, no loss of power reaches it: all of its files count as
+/// durable. Below the greatest count it refuses a call only if memory runs out.
 #[derive(Drop)]
 pub struct MemoryMaildir {
     alloc: Global,
-    files: Vec<(String, Vec<u8>)>,
+    in_new: Vec<(String, Vec<u8>)>,
+    in_cur: Vec<(String, Vec<u8>)>,
     begun: Option<(String, Vec<u8>)>,
     failures: FailureCount,
 }
 
 impl Model for MemoryMaildir {
-    ghost use Rattle.std.specs.Prelude.{[], map, option_map};
+    ghost use Rattle.std.specs.Prelude.{[], ◌++◌, map, option_map};
     ghost use Rattle.mail_store.specs.{Maildir.{all_there, draft_of, memory_file}, MemoryMaildir.{MemoryMail, shown}};
 
     ghost Value = { MemoryMail };
@@ -30,43 +35,58 @@ impl Model for MemoryMaildir {
     ghost view = { λ d. record {
       maildir = record {
         there = all_there;
-        files = map shown (map memory_file d.files.items);
+        files = map shown (map memory_file d.in_cur.items ++ map memory_file d.in_new.items);
         begun = option_map draft_of d.begun;
         failures = d.failures;
         taken = [];
         odd = [];
+        told = [];
       };
-      files = map memory_file d.files.items;
+      in_new = map memory_file d.in_new.items;
+      in_cur = map memory_file d.in_cur.items;
     } };
 }
 
 impl MemoryMaildir {
-    ghost use Rattle.std.specs.Prelude.{◌≡◌, ◌↔◌, ◌++◌, ◌∷◌, [], None, map, IsTrue, IsSome, OnErr, OnOk};
-    ghost use Rattle.mail_store.specs.{Maildir.{all_there, file, memory_file, mail}, MemoryMaildir.files_of_folder};
+    ghost use Rattle.std.specs.Prelude.{◌≡◌, ◌↔◌, ◌++◌, ◌∷◌, [], None, map, slice_index, IsTrue, IsSome, OnErr, OnOk};
+    ghost use Rattle.mail_store.specs.{
+      Maildir.{all_there, file, memory_file, mail},
+      MemoryMaildir.{MovesToCur, files_of_folder},
+    };
 
     /// A Maildir without files.
     pub fn new(alloc: Global) -> MemoryMaildir
         ensures maildir { result ≡ record {
-          maildir = record { there = all_there; files = []; begun = None; failures = 0; taken = []; odd = [] };
-          files = [];
+          maildir = record {
+            there = all_there;
+            files = [];
+            begun = None;
+            failures = 0;
+            taken = [];
+            odd = [];
+            told = [];
+          };
+          in_new = [];
+          in_cur = [];
         } }
         ensures sound { ⟦<MemoryMaildir as MaildirDisk>⟧.sound result }
     {
         MemoryMaildir {
             alloc,
-            files: Vec::new(alloc),
+            in_new: Vec::new(alloc),
+            in_cur: Vec::new(alloc),
             begun: None,
             failures: FailureCount::new(),
         }
     }
 
-    /// The files of a folder, each with its name and its bytes, in the order in which they came.
+    /// The files of a folder, each with its name and its bytes, in the order in which they came to it.
     pub fn files(&self, folder: Folder) -> &[(String, Vec<u8>)]
         ensures { map memory_file result.now ≡ files_of_folder self.now folder }
     {
         match folder {
-            Folder::New => self.files.as_slice(),
-            Folder::Cur => &self.files[..0],
+            Folder::New => self.in_new.as_slice(),
+            Folder::Cur => self.in_cur.as_slice(),
         }
     }
 
@@ -77,18 +97,80 @@ impl MemoryMaildir {
         self.begun.is_some()
     }
 
-    /// Adds a file. If memory runs out, nothing changes.
+    /// Adds a file to `new`. If memory runs out, nothing changes.
     fn put(&mut self, name: &str, content: Vec<u8>) -> Result<(), AllocError>
         ensures puts { OnOk result (self.new ≡ record self.old {
           maildir = record self.old.maildir { files = self.old.maildir.files ++ mail name.now content.items ∷ [] };
-          files = self.old.files ++ file name.now content.items ∷ [];
+          in_new = self.old.in_new ++ file name.now content.items ∷ [];
         }) }
         ensures same { OnErr result (self.new ≡ self.old) }
     {
         let name = String::from_str(self.alloc, name)?;
-        self.files.push((name, content))?;
+        self.in_new.push((name, content))?;
         Ok(())
     }
+
+    /// Moves a file from `new` to `cur` and appends a suffix, which begins with a colon, to its name, as a reader
+    /// does after it has seen the message. False, with nothing changed, if no file of `new` has the name, or a
+    /// file of `cur` has the name that would result.
+    pub fn move_to_cur(&mut self, name: &str, suffix: &str) -> Result<bool, AllocError>
+        requires { slice_index suffix.now 0 ≡ 58 }
+        ensures { MovesToCur self.old name.now (name.now ++ suffix.now) result self.new }
+    {
+        let mut moved = String::from_str(self.alloc, name)?;
+        moved.push_str(suffix)?;
+        if place_of(&self.in_cur, moved.as_str()).is_some() {
+            return Ok(false);
+        }
+        let Some(at) = place_of(&self.in_new, name) else {
+            return Ok(false);
+        };
+        self.in_cur.reserve(1)?;
+        let (_, content) = self.in_new.remove(at);
+        self.in_cur.push((moved, content)).unwrap();
+        Ok(true)
+    }
+}
+
+/// The place of a file of this name, if there is one.
+fn place_of(files: &[(String, Vec<u8>)], name: &str) -> Option<usize>
+    ensures some { IfSome result (λ place. (place < length files.now)
+        × HoldsAt (λ file. string_bytes file.0 ≡ name.now) files.now place) }
+    ensures there { IsSome result ↔ Contains (names_of (map memory_file files.now)) name.now }
+{
+    for (place, file) in files.iter().enumerate() {
+        if file.0.as_str() == name {
+            return Some(place);
+        }
+    }
+    None
+}
+
+/// Adds the names of some files.
+fn add_names(names: &mut Vec<String>, files: &[(String, Vec<u8>)]) -> Result<(), AllocError>
+    ensures { OnOk result (map string_bytes names.new.items
+        ≡ map string_bytes names.old.items ++ names_of (map memory_file files.now)) }
+{
+    for (name, _) in files {
+        names.push(name.clone()?)?;
+    }
+    Ok(())
+}
+
+/// The names of the files of two folders that have one of these stems.
+fn names_among(
+    alloc: Global,
+    cur: &[(String, Vec<u8>)],
+    new: &[(String, Vec<u8>)],
+    stems: &[String],
+) -> Result<Vec<String>, AllocError>
+    ensures { IfOk result (λ names. map string_bytes names.items
+        ≡ filter (is_sought stems.now) (names_of (map memory_file cur.now) ++ names_of (map memory_file new.now))) }
+{
+    let mut names = Vec::new(alloc);
+    add_names(&mut names, cur)?;
+    add_names(&mut names, new)?;
+    sought_names(alloc, &names, stems)
 }
 
 /// The names of some files.
@@ -96,23 +178,8 @@ fn names_of(alloc: Global, files: &[(String, Vec<u8>)]) -> Result<Vec<String>, A
     ensures { IfOk result (λ names. map string_bytes names.items ≡ names_of (map memory_file files.now)) }
 {
     let mut names = Vec::new(alloc);
-    for (name, _) in files {
-        names.push(name.clone()?)?;
-    }
+    add_names(&mut names, files)?;
     Ok(names)
-}
-
-/// The names of some files that have one of these stems.
-fn names_among(
-    alloc: Global,
-    files: &[(String, Vec<u8>)],
-    stems: &[String],
-) -> Result<Vec<String>, AllocError>
-    ensures { IfOk result (λ names. map string_bytes names.items
-        ≡ filter (is_sought stems.now) (names_of (map memory_file files.now))) }
-{
-    let names = names_of(alloc, files)?;
-    sought_names(alloc, &names, stems)
 }
 
 impl MaildirDisk for MemoryMaildir {
@@ -146,14 +213,14 @@ impl MaildirDisk for MemoryMaildir {
 
     fn names_among(&mut self, stems: &[String]) -> Result<Vec<String>, StoreFault> {
         admit(&self.failures)?;
-        match names_among(self.alloc, &self.files, stems) {
+        match names_among(self.alloc, &self.in_cur, &self.in_new, stems) {
             Ok(names) => Ok(names),
             Err(_) => Err(refuse(&mut self.failures)),
         }
     }
 
     fn odd(&self) -> &[String] {
-        let _ = self.files.len();
+        let _ = self.in_new.len();
         &[]
     }
 

@@ -1,7 +1,7 @@
 //! A Maildir in folders, asked for what no program asks of it.
 
 use folder_store::{FolderMaildir, MailFolders};
-use mail_store::{MaildirDisk, StoreFault};
+use mail_store::{Folder, MaildirDisk, StoreFault};
 use std::alloc::{AllocError, Global};
 use std::test::Fail;
 use test_devices::MemoryFolders;
@@ -14,6 +14,15 @@ fn names_no_file_of_another_folder(rt: HostRuntime) -> Result<(), Fail> {
     disk.begin("one")?;
     assert_eq!(rt; disk.settle("sub/one"), Err(StoreFault::Refused));
     assert_eq!(rt; disk.failures(), 2);
+    Ok(())
+}
+
+#[test]
+fn folders_that_are_there_are_found(rt: HostRuntime) -> Result<(), Fail> {
+    let alloc = rt.alloc();
+    let mut disk = FolderMaildir::over(alloc, MemoryFolders::new(alloc, Vec::new(alloc)));
+    disk.check(Folder::New)?;
+    disk.check(Folder::Cur)?;
     Ok(())
 }
 

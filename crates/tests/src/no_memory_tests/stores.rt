@@ -2,6 +2,8 @@
 
 use crate::no_memory_tests::watched::{begin, end, tell, tell_bytes, tell_no_memory};
 use mail_store::{Folder, MemoryMaildir, StoreFault, deliver};
+use std::alloc::Global;
+use std::test::Fail;
 
 /// Prints a fault.
 fn tell_store_fault(rt: &HostRuntime, fault: StoreFault) {
@@ -49,4 +51,37 @@ fn deliver_one(rt: &HostRuntime) {
 fn deliver_row(rt: HostRuntime) {
     deliver_one(&rt);
     deliver_one(&rt);
+}
+
+/// Moves the file `one,S=2`; returns whether it did.
+fn move_one(rt: &HostRuntime, disk: &mut MemoryMaildir) -> bool {
+    begin(rt);
+    let answer = disk.move_to_cur("one,S=2", ":2,S");
+    end(rt);
+    match answer {
+        Ok(moved) => tell(rt, if moved { "moved" } else { "not moved" }),
+        Err(_) => tell_no_memory(rt),
+    }
+    tell_maildir(rt, disk);
+    answer.is_ok()
+}
+
+fn move_twice(rt: &HostRuntime, disk: &mut MemoryMaildir) {
+    tell_maildir(rt, disk);
+    if !move_one(rt, disk) {
+        move_one(rt, disk);
+    }
+}
+
+/// A Maildir with the file `one,S=2`.
+fn maildir_of_one(alloc: Global) -> Result<MemoryMaildir, StoreFault> {
+    let mut disk = MemoryMaildir::new(alloc);
+    deliver(alloc, &mut disk, "one", b"x\n")?;
+    Ok(disk)
+}
+
+#[test]
+fn move_to_cur_row(rt: HostRuntime) -> Result<(), Fail> {
+    move_twice(&rt, &mut maildir_of_one(rt.alloc())?);
+    Ok(())
 }

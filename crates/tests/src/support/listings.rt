@@ -19,5 +19,5 @@ pub fn listing_of(alloc: Global, items: &[(&str, u64)]) -> Result<Listing, Listi
             size: *size,
         })?;
     }
-    Listing::join(alloc, number, uids, &sizes)
+    uids.join(alloc, number, &sizes)
 }

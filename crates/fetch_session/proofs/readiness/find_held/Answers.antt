@@ -16,7 +16,7 @@ returns-clause-finds g c = λ d.
           refl,
           is.0.1,
           (is.0.4, rw (c.deref.ensures.value, c.in_ok-flags.ensures, is.0.1) at is.1),
-          rw is.0.1 at (c.in_ok-odd.ensures.flags d),
+          rw is.0.1 at (c.in_ok-odd.ensures.flags d (rw is.0.1 is.0.5)),
         ),
       ),
     )

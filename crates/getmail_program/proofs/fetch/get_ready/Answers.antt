@@ -1,5 +1,5 @@
 use Rattle.std.proofs.Common.{List, ℕ, Bor, None, inl, inr, option_map, refl}
-use Rattle.getmail_setup.specs.declared.failure.Failure.TheVariants.{AtWork, NoMemory, OtherList}
+use Rattle.getmail_setup.specs.declared.failure.Failure.TheVariants.{AtWork, NoMemory}
 use Rattle.getmail_program.proofs.fetch.get_ready.Goals as goal
 
 pub returns-in_default-clause-err : goal.returns-in_default-clause-err
@@ -22,7 +22,7 @@ returns-in-Some-clause-err g c = (
     inr (
       c.in-Ok-set_up.setup,
       c.in-Ok-set_up.ensures.ok,
-      inr (OtherList c.as_str.result c.as_str-in-Some.result, c.fail-in-Some.ensures.status),
+      inr c.in-Some.ensures.0,
     ),
   ),
 )

@@ -6,7 +6,7 @@ returns-then-is_same c =
     let file = c.file-item.result in
     let first : Contains c.loop-self.self.files.now file =
     rw c.file-item.is (Contains-get_or c.loop-self.self.files.now 0 file c.in-len1-up.len_at_least) in
-    let there = c.is_same.ensures c.if-is_same.true in
+    let there = c.is_same.ensures.0 c.if-is_same.true in
     IfSome_then c.size_at.result c.size_at.ensures (λ s is. record {
       file = file;
       listed = c.loop-self.invariant file first;

@@ -43,7 +43,7 @@ returns-then-branch-clause-finds g t c = λ k.
         with_flushed stems left,
         taken_flushed stems (g.D.MaildirDisk.maildir c.args.disk.now) left found.1.1,
         (
-          (finds.0 ∙ sym same, is, finds.2, finds.3, named_flushed stems left.files finds.4),
+          (finds.0 ∙ sym same, is, finds.2, finds.3, named_flushed stems left.files finds.4, finds.5),
           rw is (found_durable c.args.asked.all account (with_flushed stems left) stems
               (durable_left account left stems finds.4) items c.args.asked.flags.now (rw held at c.in_ok-stems.ensures)),
         ),

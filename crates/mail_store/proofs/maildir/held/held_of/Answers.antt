@@ -17,4 +17,4 @@ returns-clause-finds g c = λ k.
     (has_text c.add_digits.new.found) c.deref-2.result.now (λ q. rw (c.in_ok-add_digits.ensures q, none q, c.as_str.ensures.text) refl)
     (rw (← c.deref-2.ensures.value) at told.2.2) (rw (← c.deref.ensures.value) at c.in_ok-stems.ensures)) at
     c.in_ok-flags_sought.ensures.flags in
-    (lists.0, (told.0, told.1, (flags, told.2.4, told.2.0, told.2.1, told.2.3)))
+    (lists.0, (told.0, told.1, (flags, told.2.4, told.2.0, told.2.1, told.2.3, told.2.5)))

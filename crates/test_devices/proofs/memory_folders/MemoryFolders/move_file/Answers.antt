@@ -15,7 +15,7 @@ returns c =
     rw c.self.view_is at (file_moves c.readers_move.ensures.one was.files.items c.args.place c.index-file.result.now
     c.in-Ok.moved was.new_rests c.still_rests-self-inside.result
     was.cur_rests c.still_rests-self-inside-2.result (files_at (map stored_file was.taken.items))
-    (map string_bytes was.odd_new.items) (map string_bytes was.odd_cur.items)
+    (map string_bytes was.obstacles.items) (map string_bytes was.odd_new.items) (map string_bytes was.odd_cur.items)
     (omega (arith, c.if-place-len.false, c.len.ensures)) c.index-file.ensures c.in-Ok.ensures.moves
     (λ quiet. let r = c.still_rests-self-inside.ensures quiet in (r.0, r.1, c.in-Ok.ensures.place ∙ r.2))
     (λ quiet. let r = c.still_rests-self-inside-2.ensures quiet in (r.0, r.1, ap not c.in-Ok.ensures.place ∙ r.2)))

@@ -13,7 +13,7 @@ returns c =
     rw c.self.view_is at (file_moves c.readers_move.ensures.one was.files.items c.args.place file
     (record file { is_gone = true }) was.new_rests c.still_rests-self-inside.result
     was.cur_rests c.still_rests-self-inside-2.result (files_at (map stored_file was.taken.items))
-    (map string_bytes was.odd_new.items) (map string_bytes was.odd_cur.items)
+    (map string_bytes was.obstacles.items) (map string_bytes was.odd_new.items) (map string_bytes was.odd_cur.items)
     (omega (arith, c.if-place-len.false, c.len.ensures)) c.index_mut-file.ensures.value (record {
       keeps = record { title = refl; content = refl; flushed = λ h. h; named = λ h. h };
       flushed = refl;

@@ -1,0 +1,5 @@
+use Rattle.std.proofs.lemmas.{Bool.Decides.{Decides-eqb}, Slice.Eq.{strip_prefix_is}}
+use Rattle.getmail_setup.proofs.in_place.after.Goals as goal
+
+pub returns : goal.returns
+returns c = strip_prefix_is Decides-eqb c.args.octets.now c.args.front.now c.strip_prefix.result c.strip_prefix.ensures.cases

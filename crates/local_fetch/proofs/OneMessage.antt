@@ -1,0 +1,106 @@
+-- A call to a server with one message stores it, if memory doesn't run out.
+use Rattle.std.{
+  proofs.{
+    Common.{◌≡◌, ℕ, zero, suc, Bool, true, false, [], ◌∷◌, List, None, inl, inr, refl, ◌∙◌, arith, true≢false},
+    lemmas.Bool.cases_Bool,
+  },
+  specs.{List.filter, Prelude.{◌==◌, if◌then◌else◌, is_none, take}},
+}
+use Rattle.mail_store.specs.{
+  declared.{maildir.disk.MaildirDisk.Ghosts as DiskGhosts, file.flat_file.FlatFile.Ghosts as FileGhosts},
+  FileName.is_odd,
+}
+use Rattle.pop3_wire.specs.{World.Message, declared.wire.Wire.Ghosts as WireGhosts}
+use Rattle.pop3_server.specs.{declared.maildrop.Maildrop.Ghosts as DropGhosts, LoopLink.Loop, Maildrop.DropMail}
+use Rattle.rc_file.specs.declared.settings.Settings.{Settings}
+use Rattle.fetch_record.specs.{Record.empty, RecordFile.Two}
+use Rattle.fetch_rules.specs.Wanted.{at_most, is_within, own_skip}
+use Rattle.fetch_session.specs.{
+  Account.digits_of,
+  Record.FileReadAs,
+  declared.account.Store.TheVariants.{Maildir as InMaildir},
+}
+use Rattle.fetch_runs.{specs.Calls.account_over, proofs.Lists.are_distinct}
+use Rattle.local_fetch.specs.{
+  Fetches.{FirstFetchesKeepMail, IsFetch, shown_by},
+  Good.{GoodFetchesStoreAll, OneIsStored, server_with},
+}
+
+some_of : (count : ℕ) (message : Message) → (count == 0) ≡ false → take count (message ∷ []) ≡ message ∷ []
+some_of zero message never = absurd (true≢false never)
+some_of (suc zero) message some = refl
+some_of (suc (suc count)) message some = refl
+
+one_of : (count : ℕ) (message : Message) → take (if count == 0 then 1 else count) (message ∷ []) ≡ message ∷ []
+one_of count message = elim (cases_Bool (count == 0)) [
+  | inl none ↦ rw none refl
+  | inr some ↦ rw some (some_of count message some)
+]
+
+-- nothing is known of it, its name is free, and it is within the limit
+none_skipped : (settings : Settings) (uid : List ℕ) (size : ℕ) → is_within settings.max_size size ≡ true
+    → own_skip settings false (λ id. false) uid size ≡ None
+none_skipped settings uid size fits = elim (cases_Bool settings.read_all) [
+  | inl is ↦ rw (is, fits) refl
+  | inr isnt ↦ rw (isnt, fits) refl
+]
+
+is_wanted : (settings : Settings) (message : Message) (is_odd : List ℕ → Bool) → is_odd message.uid ≡ false
+    → is_within settings.max_size message.size ≡ true
+    → at_most settings (λ (m : Message). m.size) (filter (λ (m : Message).
+    is_none (own_skip settings (is_odd m.uid) (λ id. false) m.uid m.size)) (message ∷ [])) ≡ message ∷ []
+is_wanted settings message is_odd free fits =
+    let none : own_skip settings (is_odd message.uid) (λ id. false) message.uid message.size ≡ None =
+    rw free (none_skipped settings message.uid message.size fits) in
+    rw none (one_of settings.max_count message)
+
+-- no file stands for the empty record
+read_none : FileReadAs None empty
+read_none = record {
+  version = Two;
+  torn = false;
+  means = inl (refl, refl);
+  outgrown = false;
+  grown = inl (omega arith, refl);
+  stale = refl;
+}
+
+pub one_is_stored : {D F : Type 0} (link : WireGhosts (Loop DropMail)) (disk : DiskGhosts D) (file : FileGhosts F)
+    (drop : DropGhosts DropMail) → ((d : DropMail) → drop.mail d ≡ d) → GoodFetchesStoreAll link disk file drop
+    → FirstFetchesKeepMail link disk file drop → OneIsStored link disk file drop
+one_is_stored link disk file drop mail good first message devices fetch is_message within fits no_file no_record
+    server_is fetched had =
+    let settings = fetch.settings in
+    let shown : shown_by drop fetch.server ≡ message ∷ [] = rw (server_is, mail (server_with settings message).drop) refl in
+    let (ended, _) = good fetch.now (account_over InMaildir settings devices) fetch.server fetch.report
+    (account_over InMaildir settings fetch.after) fetch.wire fetched had.store_sound had.file_sound had.drop_sound (record {
+      fresh = record { state = rw server_is refl; sent = refl; got = refl; answers = refl; left = refl; waiting = refl };
+      user = rw server_is refl;
+      pass = rw server_is refl;
+      messages = rw shown (is_message, tt);
+      within = rw shown (within, tt);
+      usable = (rw had.there refl, rw had.there refl, rw had.there refl);
+      read = (empty, rw no_record read_none);
+      store_refused = had.store_refused;
+      file_refused = had.file_refused;
+      drop_refused = had.drop_refused ∙ rw (server_is, mail (server_with settings message).drop) refl;
+      up = had.up;
+      memory = had.memory;
+    }) in
+    let is : IsFetch link disk file drop InMaildir (λ id came. came ≡ message.text) devices fetch = record {
+      fetched = fetched;
+      messages = rw shown (is_message, tt);
+      maildrop = rw shown (record {
+        each = (record { legal = is_message.legal; text = refl }, tt);
+        distinct = are_distinct (message.uid ∷ []) (refl, tt);
+      });
+      store_sound = had.store_sound;
+      file_sound = had.file_sound;
+      drop_sound = had.drop_sound;
+    } in
+    let (vanished, _, _, sent, _, _, wanted) = first (λ id. message.text) devices fetch no_file no_record is in
+    let free : is_odd (digits_of settings) (disk.maildir fetch.after.store) message.uid ≡ false = rw had.none_odd refl in (
+      ended,
+      (rw (shown, is_wanted settings message (is_odd (digits_of settings) (disk.maildir fetch.after.store)) free fits) at
+          (wanted ended).1).0,
+    )

@@ -1,0 +1,211 @@
+"""The scripts that carry an account, or make its record, killed after each change that they make, and run again: no message is
+lost and none comes twice, whatever runs of `getmail` come between.
+
+With TESTS_SCRIPTS=whole each scene is played after each change; else some of them after each third one.
+"""
+
+import os
+import random
+import signal
+import tempfile
+import unittest
+from dataclasses import dataclass, field
+from pathlib import Path
+
+from getmail.account import Account
+from getmail.carrying import KEPT, Home, run_apart, run_here, module
+from getmail.mbox_account import MboxAccount
+from getmail.shared_server import SharedServer
+from harness import power, preload, programs
+from harness.kernel import LOOPBACK
+
+WHOLE = os.environ.get("TESTS_SCRIPTS") == "whole"
+LATE, LATER = (b"e", b"five\n"), (b"f", b"six\n")
+KILLED, MOST = -signal.SIGKILL, 200
+
+
+@dataclass
+class Findings:
+    """How many kills there were, and what they cost."""
+
+    kills: int = 0
+    lost: int = 0
+    doubled: int = 0
+    told: list[str] = field(default_factory=list)
+
+    def add(self, number, moment, faults, doubling=True):
+        lost, doubled, strange = faults
+        self.lost += len(lost)
+        self.doubled += len(doubled) if doubling else 0
+        if lost or strange or (doubled and doubling):
+            self.told.append(f"killed after {number}, {moment}: lost {lost}, doubled {doubled}, strange {strange}")
+
+
+class Killed(unittest.TestCase):
+    @classmethod
+    def setUpClass(cls):
+        cls.watch, cls.refuse = (str(cls.enterClassContext(preload.library(name))) for name in ("note_changes", "refuse_call"))
+        cls.note = cls.enterClassContext(tempfile.TemporaryDirectory())
+        cls.script = module()
+
+    def killed(self, number, **changes):
+        """The environment in which a script is killed after this many changes."""
+        return {"LD_PRELOAD": f"{self.watch} {self.refuse}", "CHANGES_NOTE": f"{self.note}/{number}",
+                "CHANGES_KILLED": str(number), **changes}
+
+    def check(self, name, found):
+        print(f"{name}: {found.kills} kills, {found.lost} lost, {found.doubled} doubled")
+        self.assertEqual((found.lost, found.doubled, found.told), (0, 0, []), f"of {found.kills}")
+        self.assertGreater(found.kills, 5)
+
+
+class Carrying(Killed):
+    """Then a run with each rc file, and the script again."""
+
+    def go_on(self, home, found, number, order, words):
+        """A message comes, the runs come, and the script again; and then another message."""
+        is_known, is_begun = home.record(home.new).exists(), (home.folder / f"carried-{home.old}-{home.new}").exists()
+        if not is_begun and (order[0] == "new" or not words):
+            # Nothing was done yet: to the new rc file all mail is new.
+            return
+        home.server.messages.append(LATE)
+        for rc in order:
+            home.fetch(rc, *words)
+        # Without deletion both accounts fetch what comes between; and the new one all mail, until it has its record.
+        found.add(number, "after the runs", home.faults(LATE), words and (order[0] != "new" or is_known))
+        if home.is_mboxrd and not is_known and order[0] == "new":
+            return
+        run = run_here(self.script, *home.words)
+        if (run.status, run.err) != (0, b""):
+            found.told.append(f"killed after {number}: {run}")
+            return
+        found.add(number, "once carried", home.faults(LATE))
+        home.server.messages.append(LATER)
+        for rc in ("getmailrc", "new"):
+            home.fetch(rc, "-d")
+        found.add(number, "with later mail", home.faults(LATE, LATER))
+        self.check_names(home)
+
+    def check_names(self, home):
+        """All messages that were carried have the new names, and the other account's are as they were."""
+        if home.is_mboxrd:
+            rests = [Path(f"{home.record(digest)}.rest") for digest in (home.old, home.new)]
+            self.assertEqual([rest.exists() and rest.read_bytes() for rest in rests], [False, KEPT])
+            return
+        self.assertEqual((len(home.names(home.new)), len(home.names(home.old)), len(home.names(home.other))), (5, 1, 3))
+
+
+class Carried(Carrying):
+    def play(self, kind, order, words, step=1, **changes):
+        found = Findings()
+        with Home(kind) as home:
+            for number in range(1, MOST, step):
+                home.restore()
+                run = home.carry(**self.killed(number, **changes))
+                if run.status != KILLED:
+                    self.assertEqual(run.status, 0, run)
+                    return found
+                found.kills += 1
+                self.go_on(home, found, number, order, words)
+        self.fail("it was never done")
+
+    def test_a_maildir(self):
+        self.check("carried in a Maildir", self.play(Account, ("getmailrc", "new"), ("-d",)))
+
+    def test_an_mboxrd_file(self):
+        self.check("carried over an mboxrd file", self.play(MboxAccount, ("getmailrc", "new"), ("-d",), 1 if WHOLE else 2))
+
+    def test_without_a_rename_that_spares_what_is_there(self):
+        found = self.play(Account, ("getmailrc", "new"), ("-d",), 1 if WHOLE else 3, REFUSED_CALL="sparing-rename")
+        self.check("carried by links", found)
+
+    def test_the_new_rc_file_first(self):
+        for kind in (Account, MboxAccount):
+            found = self.play(kind, ("new", "getmailrc"), ("-d",), 1 if WHOLE else 2)
+            self.check(f"the new rc file first, {kind.__name__}", found)
+
+    def test_without_deletion(self):
+        """What comes while both accounts fetch comes to both, until it is carried again."""
+        self.check("without deletion", self.play(Account, ("getmailrc", "new"), (), 1 if WHOLE else 3))
+
+
+class PowerLost(Carrying):
+    """A loss of power in place of the kill. Of two names that a rename has within a folder, one is always there."""
+
+    MOST = 64 if WHOLE else 3
+
+    def states(self, home):
+        """The trees that a loss of power can leave, each once."""
+        watched, seen = power.Watched(home.home), set()
+        note = Path(self.note) / "power"
+        run = home.carry(LD_PRELOAD=self.watch, CHANGES_NOTE=str(note))
+        self.assertEqual(run.status, 0, run)
+        changes = watched.changes(note.read_bytes())
+        note.unlink()
+        renamed = [(path, path.replace(home.old, home.new)) for path in watched.start if f"{home.old}." in path]
+        for _, image, _ in power.fronts(watched, changes, self.MOST, random.Random(1)):
+            state = tuple(sorted(image.items()))
+            if state not in seen and all((old in image) != (new in image) for old, new in renamed):
+                seen.add(state)
+                yield image
+
+    def play(self, kind):
+        found = Findings()
+        with Home(kind) as home:
+            for image in self.states(home):
+                home.restore()
+                power.build(home.home, image)
+                found.kills += 1
+                self.go_on(home, found, found.kills, ("getmailrc", "new"), ("-d",))
+        return found
+
+    def test_a_maildir(self):
+        self.check("power lost, in a Maildir", self.play(Account))
+
+    def test_an_mboxrd_file(self):
+        self.check("power lost, over an mboxrd file", self.play(MboxAccount))
+
+
+class Converted(Killed):
+    """Killed, and run again: then `getmail` fetches nothing of the list."""
+
+    LISTS = {"getmail6": b"".join(b"%d\x001600000000\n" % number for number in range(30)),
+             "mpop": b" 30 pop.example.org u\n" + b"".join(b"%d\n" % number for number in range(30)),
+             "fetchmail": b"".join(b"u@pop.example.org %d\n" % number for number in range(30))}
+
+    def play(self, account, server, program, **changes):
+        found, path = Findings(), account.folder / "list"
+        path.write_bytes(self.LISTS[program])
+        words = ["-g", account.folder, LOOPBACK, server.port, "u", path]
+        for number in range(1, MOST):
+            run = run_apart(f"from-{program}", *words, **self.killed(number, **changes))
+            if run.status != KILLED:
+                self.assertEqual(run.status, 0, run)
+                return found
+            found.kills += 1
+            again = run_apart(f"from-{program}", *words)
+            if again.status != 0:
+                found.told.append(f"killed after {number}: {again}")
+            self.assertEqual(account.run("-q").status, 0)
+            server.wait_for_end()
+            found.doubled += len(account.held())
+            for name in os.listdir(account.folder):
+                if name.startswith("seen-"):
+                    (account.folder / name).unlink()
+            for name in os.listdir(account.maildir / "new"):
+                (account.maildir / "new" / name).unlink()
+        self.fail("it was never done")
+
+    def test_each(self):
+        with SharedServer([(b"%d" % number, b"text\n") for number in range(30)]) as server:
+            for program in self.LISTS:
+                with self.subTest(program), Account(server.port) as account:
+                    self.check(f"from {program}", self.play(account, server, program))
+
+    def test_without_a_rename_that_spares_what_is_there(self):
+        with SharedServer([(b"%d" % number, b"text\n") for number in range(30)]) as server, Account(server.port) as account:
+            self.check("from getmail6 by links", self.play(account, server, "getmail6", REFUSED_CALL="sparing-rename"))
+
+
+if __name__ == "__main__":
+    unittest.main()
