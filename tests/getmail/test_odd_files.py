@@ -22,6 +22,7 @@ LETTERS = [(b"uid-%d" % number, b"Subject: %d\n\ntext\n" % number) for number in
 NOBODY = 65534
 
 IRREGULAR = "not a regular file"
+WEEK = 604_800
 
 
 def remove(path):
@@ -104,6 +105,13 @@ class OddFiles(unittest.TestCase):
                               env=programs.environment(HOME=str(self.account.home)), timeout=programs.SECONDS, **self.user)
         self.server.wait_for_end()
         return programs.Run(done.returncode, done.stdout, done.stderr)
+
+    def age_memory(self, seconds):
+        """Has unattended runs have told all that they told so many seconds earlier."""
+        path, = (path for path in self.account.folder.iterdir() if path.name.startswith("told-"))
+        rows = [line.split() for line in path.read_text().splitlines()]
+        aged = [[*row[:2], str(int(row[2]) - seconds)] if row[0] == "said" else row for row in rows]
+        path.write_text("\n".join(" ".join(row) for row in aged))
 
     def fetched(self):
         """What the last run sent RETR for."""
@@ -242,13 +250,12 @@ class OddFiles(unittest.TestCase):
         self.assertEqual((self.fetched(), self.server.messages), ([], []))
 
     def test_unattended(self):
-        """Each path is named once."""
+        """Each path is named once, and a week later again; mending one tells none anew."""
         first, second = self.path_for(LETTERS[0], "new"), self.path_for(LETTERS[1], "new")
         os.mkfifo(first)
         self.give_away()
         line = self.told(first, IRREGULAR)
-        left_out = self.told("left out", "1 obstructed, 1 past the limit")
-        self.assertEqual(self.run_getmail("--unattended"), programs.Run(0, b"", left_out + line))
+        self.assertEqual(self.run_getmail("--unattended"), programs.Run(0, b"", line))
         self.assertEqual(self.run_getmail("--unattended"), programs.SILENT)
         self.assertEqual(self.undelivered(), {LETTERS[0][0]})
         self.empty()
@@ -256,6 +263,13 @@ class OddFiles(unittest.TestCase):
         os.mkfifo(second)
         self.give_away()
         self.assertEqual(self.run_getmail("--unattended"), programs.Run(0, b"", self.told(second, IRREGULAR)))
+        self.assertEqual(self.run_getmail("--unattended"), programs.SILENT)
+        self.age_memory(WEEK)
+        self.assertEqual(set(self.run_getmail("--unattended").err.splitlines(keepends=True)),
+                         {line, self.told(second, IRREGULAR)})
+        second.unlink()
+        self.assertEqual(self.run_getmail("--unattended"), programs.SILENT)
+        self.age_memory(WEEK - 60)
         self.assertEqual(self.run_getmail("--unattended"), programs.SILENT)
 
     def test_a_link_to_a_file_counts(self):

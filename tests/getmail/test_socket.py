@@ -6,6 +6,7 @@ from pathlib import Path
 
 from getmail.account import Account
 from getmail.server import SocketServer
+from getmail.test_why import TUNNEL
 from harness import programs, waits
 
 TWO = [(b"a", b"one\n"), (b"b", b"two\n")]
@@ -60,7 +61,7 @@ class Sockets(unittest.TestCase):
             thread.join(programs.SECONDS)
         self.assertEqual((run.status, run.err.decode().splitlines()),
                          (1, ["getmail: connection ended by the server",
-                              *self.told("it ended before the greeting", "the tunnel's own log says why")]))
+                              *self.told("it ended before the greeting", TUNNEL)]))
 
     def test_each_wait_has_a_bound(self):
         hurry = waits.hurry_for(type(self))

@@ -1,4 +1,4 @@
-"""`--unattended`: for cron and timers. It writes what is new, once, and what goes on once a day."""
+"""`--unattended`: for cron and timers. It writes what is new, and what goes on once a day (`test_weeks.py`: over weeks)."""
 
 import os
 import resource
@@ -65,13 +65,48 @@ class Unattended(unittest.TestCase):
         self.assertEqual(self.session(seconds=0), (1, fault))
         for _ in range(3):
             self.assertEqual(self.session(), (1, []))
-        self.assertEqual(self.session(seconds=DAY), (1, [*fault, f"getmail: so since {DATE}, in 5 runs"]))
+        self.assertEqual(self.session(seconds=DAY), (1, [*fault, self.line(f"seen since {DATE}, in 5 runs")]))
         self.assertEqual(self.session(), (1, []))
         self.refuse()
-        self.assertEqual(self.session(), (0, [f"getmail: works again: runs had failed since {DATE}"]))
+        self.assertEqual(self.session(), (0, [self.line(f"works again: runs had failed since {DATE}")]))
         self.assertEqual(self.session(), (0, []))
         self.refuse("UIDL")
-        self.assertEqual(self.session(), (1, fault))
+        self.assertEqual(self.session(), (1, []))
+        self.refuse()
+        self.assertEqual(self.session(), (0, []))
+
+    def test_hourly_runs_across_an_outage(self):
+        """An hour isn't a minute, and a fault that each run has is told each day."""
+        self.refuse("UIDL")
+        told = [len(self.session(seconds=HOUR)[1]) for _ in range(50)]
+        self.assertEqual([hour for hour, lines in enumerate(told) if lines], [0, 24, 48])
+        self.assertEqual({lines for lines in told if lines}, {2, 3})
+        self.refuse()
+        self.assertEqual(len(self.session(seconds=HOUR)[1]), 1)
+
+    def test_a_fault_that_was_not_seen_for_a_day(self):
+        """It is told as a new one."""
+        self.refuse("UIDL")
+        self.session()
+        self.refuse()
+        self.session()
+        self.session(seconds=2 * DAY)
+        self.refuse("UIDL")
+        self.assertEqual(len(self.session()[1]), 2)
+
+    def test_two_rc_files(self):
+        """Each has a memory of its own: a good run of one ends no fault of the other."""
+        other = self.account.folder / "other"
+        other.write_bytes(self.account.rcfile.read_bytes().replace(b"username = u\n", b"username = v\n"))
+        other.chmod(0o600)
+        self.refuse("USER u")
+        for lines in (2, 0):
+            self.assertEqual(len(self.session()[1]), lines)
+            self.assertEqual(self.session("-r", "other"), (0, []))
+        self.refuse("USER v")
+        self.assertEqual(len(self.session("-r", "other")[1]), 2)
+        self.assertEqual(len(self.session()[1]), 1)
+        self.assertEqual(len(self.told()), 2)
 
     def test_the_same_fault_whatever_the_server_says(self):
         self.server._answer = lambda command: b"-ERR try at %d\r\n" % self.now
@@ -100,35 +135,65 @@ class Unattended(unittest.TestCase):
                 self.refuse(command)
                 self.assertEqual(bool(self.session()[1]), told)
         self.refuse()
-        self.assertEqual(self.session(), (0, ["getmail: works again: runs had failed since Tue, 14 Nov 2023 22:23:20 GMT"]))
+        again = self.line("works again: runs had failed since Tue, 14 Nov 2023 22:23:20 GMT")
+        self.assertEqual(self.session(), (0, [again]))
 
     def test_the_same_fault_of_another_folder(self):
         for part in ("new", "cur"):
             (self.account.maildir / part).rmdir()
-            for lines in (2, 0):
+            for lines in (3, 0):
                 self.assertEqual(len(self.session()[1]), lines)
             (self.account.maildir / part).mkdir()
 
     def test_a_clock_that_is_set_back(self):
         self.refuse("UIDL")
+        """The mark that is still to come counts as none."""
         self.session(seconds=DAY)
-        self.assertEqual(len(self.session(seconds=-HOUR)[1]), 3)
+        self.assertEqual(len(self.session(seconds=-HOUR)[1]), 2)
+        self.assertEqual(self.session(), (1, []))
 
-    def test_what_is_left_out(self):
-        """It is written when it is more."""
-        options = b"max_message_size = 5\nmax_messages_per_session = 1\n"
-        self.account.rcfile.write_bytes(self.account.rcfile.read_bytes() + options)
+    def too_large(self, number, size):
+        return self.line(f"message {number} has {size} octets, more than max_message_size 5: it stays on the server")
+
+    def test_messages_that_are_too_large(self):
+        """Each is named once, also if a fault comes between; what was delivered before the limit isn't."""
+        self.session()
+        self.account.rcfile.write_bytes(self.account.rcfile.read_bytes() + b"max_message_size = 4\n")
+        self.assertEqual(self.session(), (0, []))
+        self.account.rcfile.write_bytes(self.account.rcfile.read_bytes().replace(b"_size = 4", b"_size = 5"))
         large = [(b"l%d" % number, b"a long message\n") for number in range(3)]
-        self.server.messages = [*large[:2], *TWO]
-        self.assertEqual(self.session(), (0, [self.line("left out: 2 too large, 1 past the limit")]))
+        self.server.messages = [TWO[0], *large[:2], TWO[1]]
+        self.assertEqual(self.session(), (0, [self.too_large(2, 16), self.too_large(3, 16)]))
         self.assertEqual(self.session(), (0, []))
-        self.assertEqual(self.session(), (0, []))
-        self.server.messages = [*large, *TWO]
-        self.assertEqual(self.session(), (0, [self.line("left out: 3 too large")]))
+        self.server.messages = [*TWO, *large]
+        self.assertEqual(self.session(), (0, [self.too_large(5, 16)]))
         self.refuse("USER u")
         self.session()
         self.refuse()
         self.assertEqual(len(self.session()[1]), 1)
+        self.assertEqual(self.session(), (0, []))
+
+    def test_the_limit_on_the_number_of_messages(self):
+        """It is news if each run of a day reached it."""
+        self.account.rcfile.write_bytes(self.account.rcfile.read_bytes() + b"max_messages_per_session = 1\n")
+        self.server.messages = [(b"%d" % number, b"one\n") for number in range(60)]
+        told = [self.session(seconds=HOUR)[1] for _ in range(50)]
+        self.assertEqual([hour for hour, lines in enumerate(told) if lines], [24, 48])
+        self.assertEqual(told[24], [self.line("each run since Tue, 14 Nov 2023 23:13:20 GMT reached "
+                                              "max_messages_per_session: 35 messages are left")])
+        self.server.messages = []
+        self.assertEqual(self.session(seconds=HOUR), (0, []))
+        self.server.messages = [(b"n%d" % number, b"one\n") for number in range(60)]
+        self.assertEqual([self.session(seconds=HOUR)[1] for _ in range(24)], [[]] * 24)
+
+    def test_folders_that_are_named_like_marks(self):
+        """A path is noted up to the mark of the process alone."""
+        text = self.account.rcfile.read_text()
+        for name in ("acct.P1-x/a", "acct.P1-x/b", ".Private/a", "acct.P1R0123456789abcdef/a", "acct.P1R0123456789abcdef/b"):
+            with self.subTest(name):
+                self.account.rcfile.write_text(text.replace("~/Maildir/", f"~/{name}/"))
+                self.assertGreater(len(self.session()[1]), 1)
+                self.assertEqual(self.session(), (1, []))
 
     def test_a_repeated_id_is_left_out(self):
         self.server.messages = TWO[:1] * 2
@@ -151,7 +216,7 @@ class Unattended(unittest.TestCase):
         self.assertEqual(self.run_getmail().status, 2)
         self.assertEqual(self.run_getmail(), programs.Run(2, b"", b""))
         self.account.rcfile.write_bytes(good)
-        self.assertEqual(self.session(), (0, [f"getmail: works again: runs had failed since {DATE}"]))
+        self.assertEqual(self.session(), (0, [self.line(f"works again: runs had failed since {DATE}")]))
 
     def test_a_server_that_cannot_be_reached(self):
         self.server.socket.close()
@@ -184,9 +249,9 @@ class Unattended(unittest.TestCase):
         self.session()
         path, = self.told()
         before = path.read_bytes()
-        self.refuse("LIST")
-        for _ in range(2):
-            self.assertEqual(self.session_with_room(10), (1, 2))
+        for command, lines in (("LIST", 2), ("LIST", 2), ("UIDL", 3), ("UIDL", 3)):
+            self.refuse(command)
+            self.assertEqual(self.session_with_room(10), (1, lines))
             self.assertEqual((path.read_bytes(), self.told()), (before, [path]))
 
     def test_its_file(self):
@@ -218,7 +283,8 @@ class Unattended(unittest.TestCase):
         path, = self.told()
         whole = path.read_bytes()
         for content in (b"", b"\0" * 5000, whole[:-1], whole[5:], whole + b"x", whole.replace(b"fault ", b"fault -"),
-                        b"getmail-told 1\n" + b"said x\n" * 100_000 + b"end", b"\xff" * 300):
+                        whole.replace(b"getmail-told 2", b"getmail-told 1"),
+                        b"getmail-told 2\n" + b"said x\n" * 100_000 + b"end", b"\xff" * 300):
             with self.subTest(content[:40]):
                 path.write_bytes(content)
                 self.assertEqual(len(self.session()[1]), 2)
@@ -336,6 +402,27 @@ class Beside(unittest.TestCase):
         self.assertEqual(self.account.run("--unattended"), programs.Run(1, b"", b""))
         self.assertEqual(self.account.run("-q").status, 1)
 
+    def test_a_lock_whose_mark_is_still_to_come(self):
+        """The hour begins at the first run that met it."""
+        os.utime(self.account.lock, (4_000_000_000, 4_000_000_000))
+        clock = self.account.home / "clock"
+        with preload.library("clock") as library:
+            for seconds, status, lines in ((0, 0, 0), (HOUR - 1, 0, 0), (HOUR, 1, 2), (HOUR + 1, 1, 0), (DAY + HOUR, 1, 3)):
+                clock.write_text(str(START + seconds))
+                run = self.account.run("--unattended", LD_PRELOAD=str(library), CLOCK=str(clock))
+                self.assertEqual((run.status, len(run.err.splitlines())), (status, lines), seconds)
+
+    def test_a_lock_of_unknown_age_without_a_memory(self):
+        """It is told each time."""
+        os.utime(self.account.lock, (4_000_000_000, 4_000_000_000))
+        self.account.run("--unattended")
+        path, = (path for path in self.account.folder.iterdir() if path.name.startswith("told-"))
+        path.unlink()
+        path.mkdir()
+        line = b"getmail: another getmail is at work for this account\n"
+        for _ in range(2):
+            self.assertEqual(self.account.run("--unattended"), programs.Run(0, b"", line))
+
 
 class TwoAtOnce(unittest.TestCase):
     def test_two_runs_leave_a_whole_file(self):
@@ -345,7 +432,7 @@ class TwoAtOnce(unittest.TestCase):
                 for run in runs:
                     run.communicate(timeout=programs.SECONDS)
                 path, = (path for path in account.folder.iterdir() if path.name.startswith("told-"))
-                self.assertTrue(path.read_bytes().startswith(b"getmail-told 1\n"))
+                self.assertTrue(path.read_bytes().startswith(b"getmail-told 2\n"))
                 self.assertTrue(path.read_bytes().endswith(b"\nend"))
             self.assertEqual(account.run("--unattended"), programs.Run(1, b"", b""))
 

@@ -14,6 +14,9 @@ from harness.kernel import LOOPBACK
 
 TWO = [(b"a", b"one\n"), (b"b", b"two\n")]
 NO_MEMBER = "No such file or directory"
+PASSWORD = "username or password is wrong; in the rc file a comment has a line of its own"
+MAILDIR = "mkdir -p makes it: a Maildir is a folder with the folders cur, new and tmp"
+TUNNEL = "the tunnel's own log says why: journalctl --user -u getmail-tunnel, or the file that stunnel.conf names"
 
 
 class Sessions(unittest.TestCase):
@@ -31,14 +34,15 @@ class Sessions(unittest.TestCase):
         thread.join(programs.SECONDS)
         return run
 
-    def check_told(self, fault, reason, *words):
-        """The fault's line alone without the option; with it the reason's line follows, which is answered."""
+    def check_told(self, fault, reason, *words, hint=None):
+        """The fault's line alone without the option; with it the reason's line follows, and a hint if there is one."""
         plain = self.session(*words)
         self.assertEqual((plain.status, plain.err.decode()), (1, f"getmail: {fault}\n"))
         run = self.session("--why", *words)
-        first, second = run.err.decode().splitlines()
+        first, second, *hints = run.err.decode().splitlines()
         self.assertEqual((run.status, first), (1, f"getmail: {fault}"))
         self.assertRegex(second, f"^getmail: u@{LOOPBACK}:{self.server.port}: {reason}$")
+        self.assertEqual(hints, [] if hint is None else [f"getmail: u@{LOOPBACK}:{self.server.port}: {hint}"])
 
     def check_unflushed(self, folder):
         """A file system that flushes no folders is no fault. One of them is named, if reasons are asked for, by a run that
@@ -63,11 +67,16 @@ class OfMaildirs(Sessions):
         self.server.refuses = ("RETR 2",)
         self.check_told("server refused RETR 2", "the server said: -ERR refused")
         self.server.refuses = ("PASS p",)
-        self.check_told("server refused PASS", "the server said: -ERR refused")
+        self.check_told("server refused PASS", "the server said: -ERR refused", hint=PASSWORD)
 
     def test_a_folder_that_is_missing(self):
-        shutil.rmtree(self.account.maildir / "new")
-        self.check_told("destination missing", f"{self.account.maildir}/new.*: {NO_MEMBER}")
+        """It is named, and not a file that was never there."""
+        for name in ("new", "tmp", "cur"):
+            shutil.rmtree(self.account.maildir / name)
+            self.check_told("destination missing", f"{self.account.maildir}/{name}: {NO_MEMBER}", hint=MAILDIR)
+            (self.account.maildir / name).mkdir()
+        shutil.rmtree(self.account.maildir)
+        self.check_told("destination missing", f"{self.account.maildir}/(new|cur|tmp): {NO_MEMBER}", hint=MAILDIR)
 
     def test_a_preview_where_tmp_is_a_file(self):
         shutil.rmtree(self.account.maildir / "tmp")
@@ -87,7 +96,7 @@ class OfMaildirs(Sessions):
     def test_a_preview_of_a_run_that_could_store_nothing(self):
         """It is written as the run writes it, but only if there is something to fetch."""
         shutil.rmtree(self.account.maildir / "tmp")
-        self.check_told("destination missing", f"{self.account.maildir}/tmp: {NO_MEMBER}", "--pretend")
+        self.check_told("destination missing", f"{self.account.maildir}/tmp: {NO_MEMBER}", "--pretend", hint=MAILDIR)
         self.server.messages = []
         self.assertEqual(self.session("--pretend").status, 0)
 
@@ -129,7 +138,8 @@ class OfMboxes(Sessions):
     def test_a_file_that_is_missing(self):
         self.account.mbox.unlink()
         for words in ((), ("--pretend",)):
-            self.check_told("destination missing", f"{self.account.mbox}: {NO_MEMBER}", *words)
+            self.check_told("destination missing", f"{self.account.mbox}: {NO_MEMBER}", *words,
+                            hint="touch makes it: an empty file is an mbox file")
 
     def test_a_reason_is_that_of_the_fault(self):
         """Before the first session there is no record, which is no reason for anything."""
@@ -292,14 +302,16 @@ class Table(unittest.TestCase):
     def test_a_reply_that_is_not_understood(self):
         self.answers["UIDL"] = b"250 fine\r\n"
         self.check_told("reply not understood", "the server said: 250 fine")
-        self.server.greeting = b"HTTP/1.1 400 Bad Request\r\n"
-        self.check_told("reply not understood", "the server said: HTTP/1.1 400 Bad Request")
+        for greeting in ("HTTP/1.1 400 Bad Request", "220 mail.test.org ready", "* OK ready", "SSH-2.0"):
+            self.server.greeting = greeting.encode() + b"\r\n"
+            self.check_told("reply not understood", f"the server said: {greeting}",
+                            "no POP3 server answers there: most have port 110")
 
     def test_a_call_of_the_link_that_is_refused(self):
         with preload.library("refuse_step") as refuse_step:
             for number, fault in ((2, "reading from"), (3, "writing to"), (6, "reading from"), (7, "writing to")):
                 with self.subTest(number):
-                    log = ["the tunnel's own log says why"] if number == 2 else []
+                    log = [TUNNEL] if number == 2 else []
                     self.check_told(f"{fault} the server failed", f"{LOOPBACK}:{self.server.port}: Input/output error", *log,
                                     LD_PRELOAD=str(refuse_step), STEP_REFUSED=str(number))
 
@@ -328,7 +340,7 @@ class Table(unittest.TestCase):
 
     def test_a_connection_that_ends(self):
         """Before the greeting, and from a server that is near, the tunnel has ended it."""
-        for octets, *told in ((0, "it ended before the greeting", "the tunnel's own log says why"),
+        for octets, *told in ((0, "it ended before the greeting", TUNNEL),
                               (12, "it ended in the reply to USER u"), (17, "it ended in the reply to PASS *"),
                               (22, "it ended in the reply to STAT")):
             server = Server(TWO)

@@ -5,7 +5,8 @@ use Rattle.std.specs.{
   List.starts_with,
   String.string_bytes,
 }
-use Rattle.rc_file.specs.declared.settings.Settings.{Settings}
+use Rattle.rc_file.specs.declared.settings.{Dest.{Dest, TheVariants.{Maildir, Mboxrd}}, Settings.Settings}
+use Rattle.pop3_wire.specs.declared.note.Asked.TheVariants.{Pass}
 use Rattle.fetch_session.specs.declared.{
   fault.Fault.Fault,
   fault.Fault.TheVariants.{ConnectionEnded, ReadFailed, WriteFailed, ReplyTooLong, BadReply, Refused, BadListing},
@@ -69,13 +70,26 @@ is_local server = starts_with nat_eq server (codes "/") || (starts_with nat_eq s
 abbrev pub is_by_a_tunnel : Settings → Findings → Bool
 is_by_a_tunnel settings found = length found.said.command.items == 0 && is_local (string_bytes settings.server)
 
--- what else may help: a tunnel says by itself why it ends a connection at once, and a message without an end can be
--- passed over
+-- a tunnel says by itself why it ends a connection at once
+abbrev pub tunnel_hint : Settings → Findings → List ℕ
+tunnel_hint settings found = if is_by_a_tunnel settings found
+    then codes "the tunnel's own log says why: journalctl --user -u getmail-tunnel, or the file that stunnel.conf names"
+    else []
+
+-- what is missing can be made
+abbrev pub missing_hint : Dest → List ℕ
+missing_hint (Maildir path) = codes "mkdir -p makes it: a Maildir is a folder with the folders cur, new and tmp"
+missing_hint (Mboxrd path) = codes "touch makes it: an empty file is an mbox file"
+
+-- what else may help, where there is one remedy
 abbrev pub hint_text : Settings → Fault → Findings → List ℕ
-hint_text settings ConnectionEnded found = if is_by_a_tunnel settings found
-    then codes "the tunnel's own log says why" else []
-hint_text settings ReadFailed found = if is_by_a_tunnel settings found
-    then codes "the tunnel's own log says why" else []
+hint_text settings ConnectionEnded found = tunnel_hint settings found
+hint_text settings ReadFailed found = tunnel_hint settings found
+hint_text settings BadReply found = if length found.said.command.items == 0
+    then codes "no POP3 server answers there: most have port 110" else []
+hint_text settings (Refused Pass) found =
+    codes "username or password is wrong; in the rc file a comment has a line of its own"
+hint_text settings (StoreRefused why.Missing) found = missing_hint settings.dest
 hint_text settings TextTooLong found = codes "max_message_size passes such a message over"
 hint_text settings fault found = []
 

@@ -10,9 +10,8 @@ use crate::left_out::tell_left_out;
 use crate::reason::reasons_said;
 use crate::told::{RunTerms, Told};
 use fetch_rules::Settings;
-use fetch_session::{LeftOut, Outcome, fault_number};
+use fetch_session::{Outcome, fault_number};
 use getmail_setup::{Errors, OUT_OF_MEMORY, Output, OutputRefusal, Subject};
-use run_memory::Counts;
 use std::alloc::Global;
 use std::io::Write;
 
@@ -95,18 +94,8 @@ fn status_when(outcome: Outcome, refusal: Option<OutputRefusal>) -> u8
 
 /// What was written last is how many messages a session left out. What obstructs one is a notice of its own.
 fn close_left_out<E>(told: &Told, errors: &Errors<'_, E>) {
-    if let Told::Done(report) = told {
-        let LeftOut {
-            obstructed: _,
-            too_large,
-            past_limit,
-            repeated,
-        } = report.left_out;
-        errors.close(Subject::LeftOut(Counts {
-            too_large: u64::from(too_large),
-            past_limit: u64::from(past_limit),
-            repeated: u64::from(repeated),
-        }));
+    if let Told::Done(_) = told {
+        errors.close(Subject::LeftOut);
     }
 }
 

@@ -12,12 +12,13 @@ ghost use Rattle.getmail_program.specs.{
 use crate::devices::{Devices, seconds_now};
 use crate::ending::{Fetched, tell_all};
 use crate::reason::line_of;
-use crate::told::{RunTerms, hold};
+use crate::told::{RunTerms, Told, hold};
 use fetch_rules::Settings;
-use fetch_session::{Account, Store};
+use fetch_session::{Account, LeftOut, Store};
 use getmail_setup::{Errors, Output, Paths, ShownWire, Subject};
 use mail_store::{FlatFile, MaildirDisk};
 use pop3_wire::Wire;
+use run_memory::Counts;
 use std::alloc::Global;
 use std::hash::BuildHasher;
 use std::io::Write;
@@ -50,16 +51,18 @@ impl<D: Drop, F: Drop> RunEnd<D, F> {
     }
 }
 
-/// Writes the line of a reason, if there is memory for it. An unattended run tells each once, whatever else it tells.
+/// Writes the line of a reason, if there is memory for it. An unattended run tells each by itself, whatever else it
+/// tells: once or, of what lasts, again each week.
 fn put_reason<E: Write>(
     alloc: Global,
     settings: &Settings,
     reason: &[u8],
+    subject: Subject,
     errors: &mut Errors<'_, E>,
 ) {
     if let Ok(line) = line_of(alloc, settings, reason) {
         errors.err.put(line.as_slice());
-        errors.close(Subject::Notice);
+        errors.close(subject);
     }
 }
 
@@ -69,7 +72,7 @@ fn tell_store_refusal<E: Write>(alloc: Global, settings: &Settings, errors: &mut
         return;
     };
     if let Ok(reason) = refusal.text(alloc) {
-        put_reason(alloc, settings, reason.as_slice(), errors);
+        put_reason(alloc, settings, reason.as_slice(), Subject::Notice, errors);
     }
 }
 
@@ -90,7 +93,7 @@ fn tell_store<'a, M: Devices<'a>, E: Write>(
         errors.close(Subject::Notice);
     }
     for obstruction in devices.obstructions(&left.store) {
-        put_reason(alloc, &left.settings, obstruction, errors);
+        put_reason(alloc, &left.settings, obstruction, Subject::Lasting, errors);
     }
     if devices.is_name_taken(&left.store) {
         tell_store_refusal(alloc, &left.settings, errors);
@@ -108,7 +111,13 @@ fn tell_unflushed<'a, M: Devices<'a>, E: Write>(
     let found = devices.unflushed(&left.store, &left.seen_file);
     if let (true, Some(path)) = (errors.says_why, found) {
         if let Ok(reason) = format!(in alloc; "{path}: its file system flushes no folders") {
-            put_reason(alloc, &left.settings, reason.as_bytes(), errors);
+            put_reason(
+                alloc,
+                &left.settings,
+                reason.as_bytes(),
+                Subject::Notice,
+                errors,
+            );
         }
     }
 }
@@ -126,6 +135,43 @@ fn finish<'a, M: Devices<'a>, E: Write>(
     tell_unflushed(alloc, devices, left, errors);
     if !left.fetched.is_idle {
         devices.sweep(&left.settings, &left.store, &left.seen_file);
+    }
+}
+
+/// The link of a run, which shows progress. An unattended run keeps the rows of messages over its size limit.
+fn shown<W: Wire, E: Write + Copy>(
+    alloc: Global,
+    wire: W,
+    settings: &Settings,
+    errors: &Errors<'_, E>,
+) -> ShownWire<W, E>
+    ensures { result.wire ≡ wire }
+{
+    let mut wire = ShownWire::new(alloc, wire, errors.screen(settings));
+    if errors.journal.is_some() && settings.max_size != 0 {
+        wire.keep_listed(settings.max_size);
+    }
+    wire
+}
+
+/// Has an unattended run know what its session left out.
+fn note_left_out<W: Wire, S: Write, E>(
+    told: &Told,
+    settings: &Settings,
+    wire: &ShownWire<W, S>,
+    errors: &Errors<'_, E>,
+) {
+    if let (Some(journal), Told::Done(report)) = (errors.journal, told) {
+        let LeftOut {
+            past_limit,
+            repeated,
+            ..
+        } = report.left_out;
+        let counts = Counts {
+            past_limit: u64::from(past_limit),
+            repeated: u64::from(repeated),
+        };
+        journal.note_left_out(wire.listed(), settings.max_size, counts);
     }
 }
 
@@ -159,14 +205,16 @@ pub fn fetch_into<
 {
     let told = hold(system, account, wire, terms, out);
     let settings = account.settings();
-    tell_all(
+    let fetched = tell_all(
         system.alloc(),
         settings,
         &terms,
         &told,
         out.refusal(),
         errors,
-    )
+    );
+    note_left_out(&told, settings, wire, errors);
+    fetched
 }
 
 /// Runs one session over devices that are made for it, or only previews it, and returns the exit status. What it says
@@ -203,7 +251,7 @@ where
     } = errand;
     let (wire, hasher) = link;
     let alloc = rt.alloc();
-    let mut wire = ShownWire::new(alloc, wire, errors.screen(&settings));
+    let mut wire = shown(alloc, wire, &settings, &errors);
     let destination = paths.destination.as_str();
     let rests = paths.rests.as_str();
     let record = paths.record.as_str();
@@ -216,6 +264,7 @@ where
         record,
         pretends,
         explains: errors.explains,
+        journal: errors.journal,
     };
     let reasons = errors.reasons;
     let system = System::new(rt, &reasons.store);

@@ -8,16 +8,18 @@ ghost use Rattle.getmail_program.specs.{Fetching.{EndsBefore, HoldsSetup, Runs},
 
 use crate::devices::{HostDevices, seconds_now};
 use crate::errand::{Errand, fetch_at};
+use crate::news::met_before;
 use fetch_rules::Settings;
 use file_reading::ReadFile;
 use folder_store::{HostFile, HostFolder, HostMaildir, ProcessMark};
 use getmail_setup::{
-    Connection, Errors, Failure, Link, Lock, Output, Peer, Reasons, Setup, Words, connect, fail,
-    failure_of, home, is_long_held, link_over, other_list, peer_of, set_up, take_lock,
+    Connection, Errors, Failure, Journal, Link, Lock, Output, Peer, Reasons, Setup, Words, connect,
+    fail, failure_of, home, is_long_held, link_over, other_list, peer_of, set_up, take_lock,
     warn_of_network,
 };
 use mail_store::{FlatFile, MaildirDisk};
 use pop3_wire::Wire;
+use std::alloc::Global;
 use std::env::Env;
 use std::fs::File;
 use std::hash::{BuildHasher, RandomState};
@@ -97,13 +99,37 @@ where
     fetch_at(rt, devices, errand, link, &mut out, errors)
 }
 
-/// Whether an unattended run says nothing of another one that has the lock: not for the first hour.
-fn is_patient(rt: &impl Clock, is_unattended: bool, reasons: &Reasons) -> bool
-    ensures { result ≡ true → is_unattended ≡ true }
+/// Whether an unattended run says nothing of another one that has the lock: not for the first hour. If the lock's own
+/// mark isn't known or is still to come, that begins at the first run that met it.
+fn is_patient<R: Files + Env + Clock + AllocGlobal>(
+    rt: &R,
+    words: &Words,
+    reasons: &Reasons,
+    journal: Option<&Journal>,
+) -> bool
+    ensures { result ≡ true → (words.now.unattended && not words.now.pretend) ≡ true }
 {
-    match (is_unattended, reasons.held_since.get()) {
-        (true, Some(since)) => !is_long_held(since, seconds_now(rt)),
-        _ => false,
+    if !is_unattended(words) {
+        return false;
+    }
+    let now = seconds_now(rt);
+    let held = reasons.held_since.get().unwrap_or(0);
+    if held != 0 && held <= now {
+        return !is_long_held(held, 0, now);
+    }
+    if let Some(journal) = journal {
+        journal.note_met();
+    }
+    !is_long_held(0, met_before(rt, words), now)
+}
+
+/// Has an unattended run know its account, and the mark of the files that it makes.
+fn note_names<E>(alloc: Global, setup: &Setup, prepared: &Prepared, errors: &Errors<'_, E>) {
+    if let Some(journal) = errors.journal {
+        journal.note_account(&setup.settings);
+        if let Ok(mark) = prepared.0.1.marked(alloc, "") {
+            journal.note_mark(mark.as_str());
+        }
     }
 }
 
@@ -166,9 +192,10 @@ where
         Ok(prepared) => prepared,
         Err(failure) => return Err(fail(alloc, failure, None, errors)),
     };
+    note_names(alloc, &setup, &prepared, errors);
     let lock = take_lock(rt, &setup, errors);
     if let Lock::Elsewhere = &lock {
-        if is_patient(rt, is_unattended(words), reasons) {
+        if is_patient(rt, words, reasons, errors.journal) {
             return Err(0);
         }
         return Err(fail(alloc, Failure::AtWork, Some(&setup.settings), errors));

@@ -11,6 +11,7 @@ mod findings;
 mod left_out;
 mod news;
 mod news_file;
+mod news_text;
 mod reason;
 mod rehearsal;
 mod start;

@@ -1,154 +1,22 @@
 //! What an unattended run tells of what it says: what no earlier run told.
 use crate::devices::seconds_now;
 use crate::news_file::{keep_at, memory_at};
+use crate::news_text::{Teller, key_of, notice_key};
 use folder_store::ProcessMark;
-use getmail_setup::{Journal, OUT_OF_MEMORY, Output, Part, Subject, Words, home, told_path};
-use httpdate::{HttpDate, fmt_http_date};
-use mail_store::account_id;
-use run_memory::{
-    Counts, Key, KnownFault, Memory, Telling, Times, after, counts_after, has_more, told_of,
+use getmail_setup::{
+    Journal, LeftOut, OUT_OF_MEMORY, Output, Part, Subject, Words, folder, home, rc_file, told_path,
 };
+use run_memory::{Key, Memory, News, Notice, Run, Telling};
 use std::alloc::{AllocError, Global};
 use std::env::Env;
 use std::io::Write;
 use std::process::Process;
 use std::random::RandomSource;
 use std::rt::{Clock, Files};
-use std::str;
-use std::time::{Duration, UNIX_EPOCH};
 use system_calls::{Refusals, System};
 
-/// What is told, and what is kept of it.
-#[derive(Drop)]
-struct News {
-    alloc: Global,
-    now: u64,
-    memory: Memory,
-    is_changed: bool,
-    text: Vec<u8>,
-}
-
-/// Octets as text; empty if they aren't UTF-8.
-fn text_in(octets: &[u8]) -> &str {
-    str::from_utf8(octets).unwrap_or("")
-}
-
-/// The front of a path up to a mark of one process, which is another one in each run.
-fn unmarked(path: &str) -> &str {
-    match path.split_once(".P") {
-        Some((front, rest))
-            if rest
-                .bytes()
-                .next()
-                .is_some_and(|octet| octet.is_ascii_digit()) => { front }
-        _ => path,
-    }
-}
-
-/// The key of a line that is about a path: a digest of both.
-fn key(line: &str, path: &str) -> Key {
-    Key::new(account_id(line, 0, path).as_str())
-}
-
-/// What a fault is known by: its line, without the lines of its reason, and the path that it is about.
-fn key_of(part: &Part) -> Key {
-    let line = text_in(&part.text).split('\n').next().unwrap_or("");
-    key(line, unmarked(text_in(&part.place)))
-}
-
-/// A date as a reader knows it; the second since 1970 if it is past the year 9999.
-fn date_of(alloc: Global, second: u64) -> Result<String, AllocError> {
-    if let Some(time) = UNIX_EPOCH.checked_add(Duration::from_secs(second)) {
-        if let Ok(date) = HttpDate::try_from(time) {
-            return fmt_http_date(alloc, date);
-        }
-    }
-    format!(in alloc; "{second}")
-}
-
-impl News {
-    /// A fault: when it is first seen, and then once a day with since when and in how many runs it was.
-    fn add_fault(&mut self, part: &Part) -> Result<(), AllocError> {
-        let key = key_of(part);
-        let known = self.memory.times_of(key);
-        let times = after(known, self.now);
-        let telling = told_of(known, self.now);
-        if telling != Telling::Nothing {
-            self.text.extend_from_slice(&part.text)?;
-        }
-        if telling == Telling::Again {
-            let Times { since, runs, .. } = times;
-            let date = date_of(self.alloc, since)?;
-            let line = format!(in self.alloc; "getmail: so since {date}, in {runs} runs\n")?;
-            self.text.extend_from_slice(line.as_bytes())?;
-        }
-        self.is_changed = true;
-        self.memory.keep_fault(KnownFault { key, times })
-    }
-
-    /// A notice: once.
-    fn add_notice(&mut self, part: &Part) -> Result<(), AllocError> {
-        let key = key(text_in(&part.text), "");
-        if self.memory.has_told(key) {
-            return Ok(());
-        }
-        self.text.extend_from_slice(&part.text)?;
-        self.is_changed = true;
-        self.memory.keep_notice(key)
-    }
-
-    /// How many messages were left out: if they are more than before.
-    fn add_left_out(&mut self, part: &Part, counts: Counts) -> Result<(), AllocError> {
-        if has_more(self.memory.left(), counts) {
-            self.text.extend_from_slice(&part.text)?;
-        }
-        Ok(())
-    }
-
-    /// Adds what is to be told of a part.
-    fn add(&mut self, part: &Part) -> Result<(), AllocError> {
-        match part.subject {
-            Subject::Fault => self.add_fault(part),
-            Subject::Notice => self.add_notice(part),
-            Subject::LeftOut(counts) => self.add_left_out(part, counts),
-        }
-    }
-
-    /// So many messages were left out in this run.
-    fn count(&mut self, counts: Counts, has_ended: bool) {
-        let old = self.memory.left();
-        let left = counts_after(old, counts, has_ended);
-        self.is_changed = self.is_changed || left != old;
-        self.memory.set_left(left);
-    }
-
-    /// The run came to its end: that is told once, if earlier ones didn't.
-    fn end(&mut self) -> Result<(), AllocError> {
-        let Some(since) = self.memory.failing_since() else {
-            return Ok(());
-        };
-        let date = date_of(self.alloc, since)?;
-        let line = format!(in self.alloc; "getmail: works again: runs had failed since {date}\n")?;
-        self.text.extend_from_slice(line.as_bytes())?;
-        self.memory.forget_faults();
-        self.is_changed = true;
-        Ok(())
-    }
-}
-
-/// How many messages were left out, as the parts say.
-fn counts_in(parts: &[Part]) -> Counts {
-    for part in parts {
-        if let Subject::LeftOut(counts) = part.subject {
-            return counts;
-        }
-    }
-    Counts {
-        too_large: 0,
-        past_limit: 0,
-        repeated: 0,
-    }
-}
+/// What another run is to say that has the lock.
+const AT_WORK: &[u8] = b"getmail: another getmail is at work for this account\n";
 
 /// The path of the file that keeps what was told, if it is known.
 fn path_of<R: Env + AllocGlobal>(rt: &R, words: &Words) -> Option<String> {
@@ -156,40 +24,154 @@ fn path_of<R: Env + AllocGlobal>(rt: &R, words: &Words) -> Option<String> {
     told_path(rt.alloc(), home.as_deref(), words).ok()
 }
 
-/// Tells all that a run said.
-fn tell_all(journal: &Journal, err: &mut Output<impl Write>) {
-    for part in &journal.take() {
-        err.put(&part.text);
+/// The rc file's path, if it is known.
+fn rc_path_of<R: Env + AllocGlobal>(rt: &R, words: &Words) -> Option<String> {
+    let alloc = rt.alloc();
+    let home = home(rt).ok()?;
+    let folder = folder(alloc, home.as_deref(), words.dir.as_deref()).ok()?;
+    rc_file(
+        alloc,
+        home.as_deref(),
+        folder.as_str(),
+        words.rcfile.as_deref(),
+    )
+    .ok()
+}
+
+/// The key of what ended a run, if something did.
+fn fault_in(parts: &[Part]) -> Option<Key> {
+    let part = parts
+        .iter()
+        .find(|part| matches!(part.subject, Subject::Fault))?;
+    Some(key_of(part))
+}
+
+/// What is noticed beside it.
+fn notices_in(alloc: Global, parts: &[Part]) -> Result<Vec<Notice>, AllocError> {
+    let mut notices = Vec::new(alloc);
+    for part in parts {
+        let lasts = matches!(part.subject, Subject::Lasting);
+        if lasts || matches!(part.subject, Subject::Notice) {
+            notices.push(Notice {
+                key: notice_key(part),
+                lasts,
+            })?;
+        }
     }
-    tell_lack(journal, err);
+    Ok(notices)
+}
+
+/// What a run says, without its words.
+fn run_of(
+    alloc: Global,
+    journal: &Journal,
+    parts: &[Part],
+    left: &LeftOut,
+) -> Result<Run, AllocError> {
+    let mut large = Vec::new(alloc);
+    for message in &left.large {
+        large.push(message.key)?;
+    }
+    Ok(Run {
+        fault: fault_in(parts),
+        notices: notices_in(alloc, parts)?,
+        has_listed: left.has_listed || journal.has_ended(),
+        large,
+        counts: left.counts,
+        has_ended: journal.has_ended(),
+        has_met: journal.has_met(),
+    })
+}
+
+/// Tells the parts that are told, by whether they are, or those that aren't.
+fn put_parts(parts: &[Part], news: &News, is_told: bool, teller: &mut Teller) {
+    let mut notices = news.notices.iter();
+    for part in parts {
+        let told = match part.subject {
+            Subject::Fault => news.fault != Telling::Nothing,
+            Subject::LeftOut => false,
+            Subject::Notice | Subject::Lasting => notices.next() == Some(&true),
+        };
+        if told == is_told {
+            teller.put(&part.text);
+        }
+        if let (Subject::Fault, true) = (part.subject, is_told) {
+            teller.put_again(&news.fault);
+        }
+    }
+}
+
+/// Tells what is new.
+fn put_news(parts: &[Part], left: &LeftOut, news: &News, teller: &mut Teller) {
+    put_parts(parts, news, true, teller);
+    for (message, is_named) in left.large.iter().zip(&news.large) {
+        if *is_named {
+            teller.put_large(message, left.limit);
+        }
+    }
+    teller.put_unnamed(news.unnamed);
+    teller.put_limited(news.limited, left.counts.past_limit);
+    teller.put_repeated(news.repeated);
+    teller.put_end(news.end);
+}
+
+/// Tells all that a run said.
+fn put_all(parts: &[Part], teller: &mut Teller) {
+    for part in parts {
+        teller.put(&part.text);
+    }
 }
 
 /// Tells that memory ran out for what a run said, if it did.
-fn tell_lack(journal: &Journal, err: &mut Output<impl Write>) {
-    if journal.lacks_memory() {
+fn tell_lack(lacks_memory: bool, err: &mut Output<impl Write>) {
+    if lacks_memory {
         err.put(OUT_OF_MEMORY.as_bytes());
     }
 }
 
-/// Tells what is new of what a run said. What there is no memory for is told.
-fn news_of(journal: &Journal, news: &mut News, err: &mut Output<impl Write>) {
-    let parts = journal.take();
-    for part in &parts {
-        if news.add(part).is_err() {
-            err.put(&part.text);
+/// Since when another run's lock is met, as earlier runs kept it; 0 if that isn't known.
+pub fn met_before<R: Files + Env + AllocGlobal>(rt: &R, words: &Words) -> u64 {
+    let refusals = Refusals::new(rt.alloc(), None);
+    let system = System::new(rt, &refusals);
+    match path_of(rt, words) {
+        Some(path) => match memory_at(&system, path.as_str()) {
+            Ok(memory) => memory.met(),
+            Err(_) => 0,
+        },
+        None => 0,
+    }
+}
+
+/// What is decided of what a run says: what is told of it, and the octets of the file, if they change.
+fn decide(
+    alloc: Global,
+    memory: Result<Memory, AllocError>,
+    run: &Run,
+    now: u64,
+) -> Result<(News, Option<Vec<u8>>), AllocError> {
+    let mut memory = memory?;
+    let before = memory.text(alloc)?;
+    let news = memory.take_in(alloc, run, now)?;
+    let text = memory.text(alloc)?;
+    let changed = if text == before { None } else { Some(text) };
+    Ok((news, changed))
+}
+
+/// The teller of what an unattended run says.
+fn teller_of<R: Env + AllocGlobal>(rt: &R, words: &Words, journal: &Journal) -> Teller {
+    let mut name = journal.take_account();
+    if name.is_empty() {
+        if let Some(path) = rc_path_of(rt, words) {
+            if let Ok(path) = Vec::from_slice(rt.alloc(), path.as_bytes()) {
+                name = path;
+            }
         }
     }
-    let has_ended = journal.has_ended();
-    news.count(counts_in(&parts), has_ended);
-    if has_ended {
-        let _ = news.end();
-    }
-    err.put(&news.text);
-    tell_lack(journal, err);
+    Teller::new(rt.alloc(), name)
 }
 
 /// Tells what no earlier run told of what this one said, and keeps that in a file, unless it couldn't be written:
-/// then the next run tells it. If there is no memory to read the file, all is told, and the file stays.
+/// then the next run tells it. If the file can't be written or there is no memory for it, all is told.
 pub fn tell_news<R, E: Write + Drop>(
     rt: &R,
     process: Process,
@@ -205,25 +187,48 @@ where
     let system = System::new(rt, &refusals);
     let path = path_of(rt, words);
     let mut err = Output::new(err);
+    let mut teller = teller_of(rt, words, journal);
+    let (parts, left) = (journal.take(), journal.take_left_out());
     let memory = match &path {
         Some(path) => memory_at(&system, path.as_str()),
         None => Ok(Memory::new(alloc)),
     };
-    let Ok(memory) = memory else {
-        tell_all(journal, &mut err);
+    let decided = match run_of(alloc, journal, &parts, &left) {
+        Ok(run) => decide(alloc, memory, &run, seconds_now(rt).max(1)),
+        Err(_) => Err(AllocError),
+    };
+    let Ok((news, changed)) = decided else {
+        put_all(&parts, &mut teller);
+        err.put(teller.text());
+        tell_lack(journal.lacks_memory() || teller.lacks_memory(), &mut err);
         return;
     };
-    let mut news = News {
-        alloc,
-        now: seconds_now(rt),
-        memory,
-        is_changed: false,
-        text: Vec::new(alloc),
-    };
-    news_of(journal, &mut news, &mut err);
-    if let (Some(path), true, None) = (&path, news.is_changed, err.refusal()) {
-        if let Ok(mark) = ProcessMark::new(process, rt) {
-            keep_at(&system, path.as_str(), mark, &news.memory);
+    put_news(&parts, &left, &news, &mut teller);
+    err.put(teller.text());
+    tell_lack(journal.lacks_memory() || teller.lacks_memory(), &mut err);
+    if let (Some(path), Some(text), None) = (&path, changed, err.refusal()) {
+        let is_kept = match ProcessMark::new(process, rt) {
+            Ok(mark) => keep_at(&system, path.as_str(), mark, &text),
+            Err(_) => false,
+        };
+        if !is_kept {
+            tell_rest(alloc, journal, &parts, &news, &mut err);
         }
     }
+}
+
+/// Tells the rest of what a run said, since it can't be kept what was told.
+fn tell_rest(
+    alloc: Global,
+    journal: &Journal,
+    parts: &[Part],
+    news: &News,
+    err: &mut Output<impl Write>,
+) {
+    let mut teller = Teller::new(alloc, Vec::new(alloc));
+    put_parts(parts, news, false, &mut teller);
+    if journal.has_met() && parts.is_empty() {
+        teller.put(AT_WORK);
+    }
+    err.put(teller.text());
 }

@@ -32,16 +32,15 @@ pub fn memory_at<R: Files + AllocGlobal>(
     }
 }
 
-/// Writes the file at a path anew. What can't be written is told once more.
+/// Writes these octets to the file at a path, and whether that was done.
 pub fn keep_at<R: Files + Clock + AllocGlobal + Clone + Drop>(
     system: &System<'_, R>,
     path: &str,
     mark: ProcessMark,
-    memory: &Memory,
-) {
-    if let Ok(text) = memory.text(system.alloc()) {
-        let mut file = HostFile::at(system, path, mark);
-        let _ = file.replace(&text);
-        file.sweep();
-    }
+    text: &[u8],
+) -> bool {
+    let mut file = HostFile::at(system, path, mark);
+    let is_kept = file.replace(text).is_ok();
+    file.sweep();
+    is_kept
 }

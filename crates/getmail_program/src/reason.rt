@@ -1,11 +1,13 @@
 //! The lines after a fault's: the account, and the reason.
 ghost use Rattle.std.specs.{Prelude.{◌≡◌, ◌++◌, IfOk, codes}, String.string_bytes};
 ghost use Rattle.getmail_program.specs.Reasons.{hint_text, is_by_a_tunnel, is_local, line_if_any, or_else, place_in};
-ghost use Rattle.getmail_program.specs.Reasons.{reason_line, reason_text, reasons_of, reasons_said, rows_text};
+ghost use Rattle.getmail_program.specs.Reasons.{missing_hint, reason_line, reason_text, reasons_of, reasons_said};
+ghost use Rattle.getmail_program.specs.Reasons.{rows_text, tunnel_hint};
 
 use crate::findings::Findings;
-use fetch_rules::Settings;
+use fetch_rules::{Dest, Settings};
 use fetch_session::{Fault, Outcome, Why};
+use pop3_client::Asked;
 use std::alloc::{AllocError, Global};
 use trace::Said;
 
@@ -146,18 +148,42 @@ fn is_by_a_tunnel(settings: &Settings, found: &Findings) -> bool
     found.said.command.is_empty() && is_near(settings.server.as_str())
 }
 
-/// What else may help; empty if nothing is known to.
+/// Where a tunnel says why it ended a connection at once; empty if no tunnel did.
+fn tunnel_hint(settings: &Settings, found: &Findings) -> &'static str
+    ensures { result.now ≡ tunnel_hint settings.now found.now }
+{
+    if is_by_a_tunnel(settings, found) {
+        "the tunnel's own log says why: journalctl --user -u getmail-tunnel, or the file that stunnel.conf names"
+    } else {
+        ""
+    }
+}
+
+/// How a destination that is missing is made.
+fn missing_hint(dest: &Dest) -> &'static str
+    ensures { result.now ≡ missing_hint dest.now }
+{
+    match dest {
+        Dest::Maildir(_) => {
+            "mkdir -p makes it: a Maildir is a folder with the folders cur, new and tmp"
+        }
+        Dest::Mboxrd(_) => "touch makes it: an empty file is an mbox file",
+    }
+}
+
+/// What else may help, where there is one remedy; empty if nothing is known to.
 fn hint_text(settings: &Settings, fault: &Fault, found: &Findings) -> &'static str
     ensures { result.now ≡ hint_text settings.now fault.now found.now }
 {
     match fault {
-        Fault::ConnectionEnded | Fault::ReadFailed => {
-            if is_by_a_tunnel(settings, found) {
-                "the tunnel's own log says why"
-            } else {
-                ""
-            }
+        Fault::ConnectionEnded | Fault::ReadFailed => tunnel_hint(settings, found),
+        Fault::BadReply if found.said.command.is_empty() => {
+            "no POP3 server answers there: most have port 110"
         }
+        Fault::Refused(Asked::Pass) => {
+            "username or password is wrong; in the rc file a comment has a line of its own"
+        }
+        Fault::StoreRefused(Why::Missing) => missing_hint(&settings.dest),
         Fault::TextTooLong => "max_message_size passes such a message over",
         _ => "",
     }

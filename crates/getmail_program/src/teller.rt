@@ -122,7 +122,7 @@ impl<'a, O: Write> Listener for Teller<'a, O> {
     ghost hears = { λ a plans b. HasSameLinks a b × WroteMore O.contents a b × HasLast plans a b };
 
     fn asks_why(&self) -> bool {
-        self.explains && self.verbose == 2
+        self.explains && self.verbose != 1
     }
 
     fn expect(&mut self, plan: Vec<Step>) {

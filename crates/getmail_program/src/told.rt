@@ -15,7 +15,7 @@ use fetch_rules::{Settings, Step};
 use fetch_session::{
     Account, Outcome, Preview, Report, pretend, preview_text, session_told, told_report,
 };
-use getmail_setup::{Output, ShownWire};
+use getmail_setup::{Journal, Output, ShownWire};
 use mail_store::{FlatFile, MaildirDisk};
 use pop3_client::Client;
 use pop3_wire::Wire;
@@ -38,6 +38,8 @@ pub struct RunTerms<'a> {
     pub pretends: bool,
     /// Whether the report says why messages are passed over.
     pub explains: bool,
+    /// What an unattended run says, if it is one.
+    pub journal: Option<&'a Journal>,
 }
 
 /// What a session says at its end.
@@ -104,6 +106,15 @@ fn asked_for(explains: bool, plan: &[Step]) -> &[Step]
     ensures { result.now ≡ (if explains then plan.entry.now else []) }
 {
     if explains { plan } else { &[] }
+}
+
+/// Has an unattended run know the plan of its session.
+fn note_plan(terms: &RunTerms<'_>, plan: &[Step]) {
+    if let Some(journal) = terms.journal {
+        if !plan.is_empty() {
+            journal.note_plan(plan);
+        }
+    }
 }
 
 /// Previews a session of the account over the link, wipes the line of progress, and writes what a run would do.
@@ -173,6 +184,7 @@ pub fn hold<
     wire.wipe();
     let settings = account.settings();
     let plan = asked_for(terms.explains, &notes.plan);
+    note_plan(&terms, plan);
     put_report(alloc, &report, settings, plan, &notes.written, out);
     Told::Done(report)
 }

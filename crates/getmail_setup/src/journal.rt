@@ -1,4 +1,6 @@
 //! What an unattended run says, kept until it is decided what of it is told.
+use crate::listed::{Large, Listed};
+use fetch_rules::{Settings, Skip, Step};
 use run_memory::Counts;
 use std::alloc::{AllocError, Global};
 use std::cell::Cell;
@@ -9,10 +11,12 @@ use std::io::{self, Write};
 pub enum Subject {
     /// What ended the run.
     Fault,
-    /// Something else, in one line.
+    /// Something else, in one line: it is told once.
     Notice,
+    /// What obstructs a message: it is told again each week.
+    Lasting,
     /// How many messages were left out.
-    LeftOut(Counts),
+    LeftOut,
 }
 
 /// A part of what is said.
@@ -24,15 +28,67 @@ pub struct Part {
     pub place: Vec<u8>,
 }
 
-/// What a run says, part by part.
+/// What a run left out, of its listing.
+#[derive(Drop)]
+pub struct LeftOut {
+    /// Whether it had a listing and what is planned for each message.
+    pub has_listed: bool,
+    /// The messages over the size limit, and that limit.
+    pub large: Vec<Large>,
+    pub limit: u64,
+    pub counts: Counts,
+}
+
+/// What a run says, part by part, and how it came out.
 #[derive(Drop)]
 pub struct Journal {
     alloc: Global,
     begun: Cell<Vec<u8>>,
     place: Cell<Vec<u8>>,
+    mark: Cell<Vec<u8>>,
+    account: Cell<Vec<u8>>,
     parts: Cell<Vec<Part>>,
+    too_large: Cell<Option<Vec<u32>>>,
+    left_out: Cell<LeftOut>,
     has_ended: Cell<bool>,
+    has_met: Cell<bool>,
     lacks_memory: Cell<bool>,
+}
+
+/// Nothing was left out.
+fn none_left(alloc: Global) -> LeftOut {
+    LeftOut {
+        has_listed: false,
+        large: Vec::new(alloc),
+        limit: 0,
+        counts: Counts {
+            past_limit: 0,
+            repeated: 0,
+        },
+    }
+}
+
+/// The numbers of the messages of a plan that are over the size limit.
+fn too_large_in(alloc: Global, plan: &[Step]) -> Result<Vec<u32>, AllocError> {
+    let mut numbers = Vec::new(alloc);
+    for step in plan {
+        if let Some(Skip::TooLarge) = step.skip {
+            numbers.push(step.number)?;
+        }
+    }
+    Ok(numbers)
+}
+
+/// The front of a path up to the mark of the process.
+fn unmarked<'a>(path: &'a str, mark: &[u8]) -> &'a [u8] {
+    let octets = path.as_bytes();
+    if mark.is_empty() {
+        return octets;
+    }
+    match octets.windows(mark.len()).position(|part| part == mark) {
+        Some(place) => &octets[..place],
+        None => octets,
+    }
 }
 
 impl Journal {
@@ -42,8 +98,13 @@ impl Journal {
             alloc,
             begun: Cell::new(Vec::new(alloc)),
             place: Cell::new(Vec::new(alloc)),
+            mark: Cell::new(Vec::new(alloc)),
+            account: Cell::new(Vec::new(alloc)),
             parts: Cell::new(Vec::new(alloc)),
+            too_large: Cell::new(None),
+            left_out: Cell::new(none_left(alloc)),
             has_ended: Cell::new(false),
+            has_met: Cell::new(false),
             lacks_memory: Cell::new(false),
         }
     }
@@ -59,11 +120,40 @@ impl Journal {
         added
     }
 
-    /// The fault of the next part is about this path.
+    /// This is the mark of the process, which the names of the files that it makes have.
+    pub fn note_mark(&self, mark: &str) {
+        if let Ok(mark) = Vec::from_slice(self.alloc, mark.as_bytes()) {
+            self.mark.set(mark);
+        }
+    }
+
+    /// The fault of the next part is about this path. The mark of the process isn't noted, nor what is behind it.
     pub fn note_place(&self, path: &str) {
-        if let Ok(place) = Vec::from_slice(self.alloc, path.as_bytes()) {
+        let mark = self.mark.replace(Vec::new(self.alloc));
+        if let Ok(place) = Vec::from_slice(self.alloc, unmarked(path, &mark)) {
             self.place.set(place);
         }
+        self.mark.set(mark);
+    }
+
+    /// The name of the account, as lines have it.
+    pub fn note_account(&self, settings: &Settings) {
+        let Settings {
+            server,
+            port,
+            username,
+            ..
+        } = settings;
+        if let Ok(account) = format!(in self.alloc; "{username}@{server}:{port}") {
+            if let Ok(account) = Vec::from_slice(self.alloc, account.as_bytes()) {
+                self.account.set(account);
+            }
+        }
+    }
+
+    /// The name of the account; empty if it isn't known. It is taken out.
+    pub fn take_account(&self) -> Vec<u8> {
+        self.account.replace(Vec::new(self.alloc))
     }
 
     /// What was said since the last part is one, if it was anything.
@@ -85,6 +175,36 @@ impl Journal {
         self.parts.set(parts);
     }
 
+    /// This is what is planned for each message of the listing.
+    pub fn note_plan(&self, plan: &[Step]) {
+        if let Ok(numbers) = too_large_in(self.alloc, plan) {
+            self.too_large.set(Some(numbers));
+        }
+    }
+
+    /// These were the rows of the listing, and so many messages were left out.
+    pub fn note_left_out(&self, listed: Option<&Listed>, limit: u64, counts: Counts) {
+        let (has_listed, large) = match (self.too_large.replace(None), listed) {
+            (None, _) => (false, Vec::new(self.alloc)),
+            (Some(_), None) => (true, Vec::new(self.alloc)),
+            (Some(numbers), Some(listed)) => match listed.among(self.alloc, &numbers) {
+                Ok(large) => (true, large),
+                Err(_) => (false, Vec::new(self.alloc)),
+            },
+        };
+        self.left_out.set(LeftOut {
+            has_listed,
+            large,
+            limit,
+            counts,
+        });
+    }
+
+    /// What was left out. It is taken out.
+    pub fn take_left_out(&self) -> LeftOut {
+        self.left_out.replace(none_left(self.alloc))
+    }
+
     /// The run came to its end.
     pub fn note_end(&self) {
         self.has_ended.set(true);
@@ -93,6 +213,16 @@ impl Journal {
     /// Whether the run came to its end.
     pub fn has_ended(&self) -> bool {
         self.has_ended.get()
+    }
+
+    /// Another run had the lock.
+    pub fn note_met(&self) {
+        self.has_met.set(true);
+    }
+
+    /// Whether another run had the lock.
+    pub fn has_met(&self) -> bool {
+        self.has_met.get()
     }
 
     /// Whether there was no memory for a part of what was said.

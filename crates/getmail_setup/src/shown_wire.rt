@@ -1,6 +1,7 @@
 //! A link that shows progress on a terminal.
 ghost use Rattle.std.specs.Prelude.{◌≡◌};
 
+use crate::listed::Listed;
 use crate::progress::Progress;
 use pop3_wire::{Note, Wire, WireDown};
 use std::alloc::Global;
@@ -16,6 +17,7 @@ pub struct ShownWire<W, S> {
     alloc: Global,
     progress: Progress,
     is_shown: bool,
+    listed: Option<Listed>,
 }
 
 /// Writes a line over the last one; no line is longer than 48 characters.
@@ -36,7 +38,20 @@ impl<W: Wire, S: Write> ShownWire<W, S> {
             alloc,
             progress: Progress::new(),
             is_shown: false,
+            listed: None,
         }
+    }
+
+    /// Keeps the rows of the listing that are about messages over a size limit.
+    pub fn keep_listed(&mut self, limit: u64)
+        ensures { self.new.wire ≡ self.old.wire }
+    {
+        self.listed = Some(Listed::new(self.alloc, limit));
+    }
+
+    /// The rows that were kept, if any were to be.
+    pub fn listed(&self) -> Option<&Listed> {
+        self.listed.as_ref()
     }
 
     /// Takes note of a part of the conversation, and shows how far the fetch is, if it is time to. At the end
@@ -89,6 +104,9 @@ impl<W: Wire, S: Write> Wire for ShownWire<W, S> {
 
     fn note(&mut self, part: Note<'_>) {
         self.show(part);
+        if let Some(listed) = &mut self.listed {
+            listed.note(part);
+        }
         self.wire.note(part)
     }
 

@@ -1,20 +1,25 @@
 -- What is written is read back as the same.
 use Rattle.std.{
-  proofs.Common.{All, Bool, Err, None, Ok, OnErr, OnOk, Result, List, Option, Some, [], ap, append-nil, append_assoc, arith, bytes_eq, inl},
+  proofs.Common.{All, Bool, Err, None, Ok, OnErr, OnOk, Result, List, Option, Some, [], ap, append-nil, append_assoc, arith, bytes_eq},
   proofs.Common.{decimal, drop, false, flat_map, inr, length, length-append, nat_lt, refl, remove, subst, suc, take, true, ℕ, ◌++◌, ◌+◌},
-  proofs.Common.{◌<◌, ◌==◌, ◌^◌, ◌∙◌, ◌∷◌, ◌≡◌, ◌≢◌, ◌≤◌, option_map, if◌then◌else◌},
+  proofs.Common.{◌<◌, ◌==◌, ◌^◌, ◌∙◌, ◌∷◌, ◌≡◌, ◌≢◌, ◌≤◌, option_map, filter, inl, set, sym, if◌then◌else◌},
   proofs.Math.Seq.take-append_seam,
   proofs.lemmas.{Fmt.length-decimal-le, Bool.{cases_lt, le-ltb, lt-ltb, Decides.{eqb_tells, nat_tests}}},
-  proofs.lemmas.List.{length-drop, Edits.length-remove, Concat.{flat_map-cons, length-flat_map}, Sums.{list_all-from_AllPass, sum_by-le}},
-  proofs.lemmas.List.Elements.{All-append, All-drop, All-push, All-take, recursion_from_All},
+  proofs.lemmas.List.{length-drop, length-set, Edits.length-remove, Concat.{flat_map-cons, length-flat_map}},
+  proofs.lemmas.List.Sums.{count_by-le-length, length-filter, list_all-from_AllPass, sum_by-le},
+  proofs.lemmas.List.Elements.{All-append, All-drop, All-filter, All-push, All-set, All-take, recursion_from_All},
   specs.{List.{AllByRecursion, after_first, before_first, position_or_len}, Option.option_map_or},
 }
 use Rattle.mail_terms.{specs.Text.lines_of_text, proofs.NumeralLemmas.{HasNo, HasNo-decimal, numeral_value-decimal}}
 use Rattle.run_memory.specs.{
   Fields.{IsFaultKey, is_digit, key_in, numbers_in},
-  Lines.{AreNumbers, IsReadableFault, counts_of, known_fault_in, known_fault_line, left_line, line_in, notice_line, numbers_text},
-  Memory.{IsKept, IsReadBack, Told, end, with_lf, nothing, room, memory_text, told_after, told_in, with_line},
-  declared.{line.{KnownFault.KnownFault, Line.{Line, TheVariants.{Left, Fault, Notice}}}, times.Counts.Counts},
+  Lines.{AreNumbers, IsReadableFault, IsReadableNotice, known_fault_in, known_fault_line, large_line, left_line, left_marks_of},
+  Lines.{line_in, marks_line, marks_of, notice_in, notice_line, numbers_text},
+  Memory.{AreFew, IsKept, IsReadBack, Told, end, with_lf, nothing, room, memory_text, told_after, told_in, with_line},
+  declared.{
+    line.{KnownFault.KnownFault, SaidNotice.SaidNotice, Line.{Line, TheVariants.{Left, Marks, Fault, Notice, Large}}},
+    run.{LeftMarks.LeftMarks, RunMarks.RunMarks},
+  },
 }
 
 -- ---- a line that is read
@@ -140,12 +145,29 @@ fault_fields f is =
 fault_read : (f : KnownFault) → IsReadableFault f → line_in (known_fault_line f) ≡ Some (Fault f)
 fault_read f is = ap (λ (o : Option KnownFault). option_map Fault o) (fault_fields f is)
 
-left_read : (left : Counts) → AreNumbers left.too_large left.past_limit left.repeated → line_in (left_line left) ≡ Some (Left left)
-left_read left are = ap (λ (o : Option (ℕ × ℕ × ℕ)). option_map (λ numbers. Left (counts_of numbers)) o)
-    (numbers_read left.too_large left.past_limit left.repeated are)
+left_read : (left : LeftMarks) → AreNumbers left.unnamed left.limited left.repeated → line_in (left_line left) ≡ Some (Left left)
+left_read left are = ap (λ (o : Option (ℕ × ℕ × ℕ)). option_map (λ numbers. Left (left_marks_of numbers)) o)
+    (numbers_read left.unnamed left.limited left.repeated are)
 
-notice_read : (key : List ℕ) → IsFaultKey key → line_in (notice_line key) ≡ Some (Notice key)
-notice_read key is = ap (λ (o : Option (List ℕ)). option_map Notice o) (key_read key is)
+marks_read : (marks : RunMarks) → AreNumbers marks.ended marks.failing marks.met → line_in (marks_line marks) ≡ Some (Marks marks)
+marks_read marks are = ap (λ (o : Option (ℕ × ℕ × ℕ)). option_map (λ numbers. Marks (marks_of numbers)) o)
+    (numbers_read marks.ended marks.failing marks.met are)
+
+notice_fields : (n : SaidNotice) → IsReadableNotice n → notice_in (n.key ++ 32 ∷ decimal n.told) ≡ Some n
+notice_fields n is =
+    let none = HasNo-key 32 (omega arith) n.key is.key in
+    rw (
+      cut_rest 32 n.key (decimal n.told) none,
+      cut_front 32 n.key (decimal n.told) none,
+      key_read n.key is.key,
+      numeral_value-decimal n.told is.told,
+    ) refl
+
+notice_read : (n : SaidNotice) → IsReadableNotice n → line_in (notice_line n) ≡ Some (Notice n)
+notice_read n is = ap (λ (o : Option SaidNotice). option_map Notice o) (notice_fields n is)
+
+large_read : (key : List ℕ) → IsFaultKey key → line_in (large_line key) ≡ Some (Large key)
+large_read key is = ap (λ (o : Option (List ℕ)). option_map Large o) (key_read key is)
 
 HasNo-fault : (f : KnownFault) → IsReadableFault f → HasNo 10 (known_fault_line f)
 HasNo-fault f is =
@@ -161,7 +183,7 @@ HasNo-fault f is =
       ),
     )
 
-HasNo-left : (left : Counts) → AreNumbers left.too_large left.past_limit left.repeated → HasNo 10 (left_line left)
+HasNo-left : (left : LeftMarks) → AreNumbers left.unnamed left.limited left.repeated → HasNo 10 (left_line left)
 HasNo-left left are = (
   (λ same. omega (arith, same)),
   (
@@ -172,21 +194,56 @@ HasNo-left left are = (
         (λ same. omega (arith, same)),
         (
           (λ same. omega (arith, same)),
-          HasNo-numbers left.too_large left.past_limit left.repeated are,
+          HasNo-numbers left.unnamed left.limited left.repeated are,
         ),
       ),
     ),
   ),
 )
 
-HasNo-notice : (key : List ℕ) → IsFaultKey key → HasNo 10 (notice_line key)
-HasNo-notice key is = (
+HasNo-marks : (marks : RunMarks) → AreNumbers marks.ended marks.failing marks.met → HasNo 10 (marks_line marks)
+HasNo-marks marks are = (
   (λ same. omega (arith, same)),
   (
     (λ same. omega (arith, same)),
     (
       (λ same. omega (arith, same)),
-      ((λ same. omega (arith, same)), ((λ same. omega (arith, same)), HasNo-key 10 (omega arith) key is)),
+      (
+        (λ same. omega (arith, same)),
+        (
+          (λ same. omega (arith, same)),
+          ((λ same. omega (arith, same)), HasNo-numbers marks.ended marks.failing marks.met are),
+        ),
+      ),
+    ),
+  ),
+)
+
+HasNo-notice : (n : SaidNotice) → IsReadableNotice n → HasNo 10 (notice_line n)
+HasNo-notice n is =
+    let rest = HasNo-append 10 n.key _ (HasNo-key 10 (omega arith) n.key is.key)
+    ((λ same. omega (arith, same)), HasNo-decimal 10 (omega arith) n.told is.told) in (
+      (λ same. omega (arith, same)),
+      (
+        (λ same. omega (arith, same)),
+        (
+          (λ same. omega (arith, same)),
+          ((λ same. omega (arith, same)), ((λ same. omega (arith, same)), rest)),
+        ),
+      ),
+    )
+
+HasNo-large : (key : List ℕ) → IsFaultKey key → HasNo 10 (large_line key)
+HasNo-large key is = (
+  (λ same. omega (arith, same)),
+  (
+    (λ same. omega (arith, same)),
+    (
+      (λ same. omega (arith, same)),
+      (
+        (λ same. omega (arith, same)),
+        ((λ same. omega (arith, same)), ((λ same. omega (arith, same)), HasNo-key 10 (omega arith) key is)),
+      ),
     ),
   ),
 )
@@ -221,37 +278,66 @@ faults_read told (f ∷ faults) rest known few =
     ∙ ap (λ (items : List KnownFault). told_after (record told { faults = items }) (lines_of_text rest))
     (append_assoc told.faults (f ∷ []) faults)
 
-notices_read : (told : Told) (keys : List (List ℕ)) (rest : List ℕ) → AllByRecursion IsFaultKey keys
-    → length told.notices + length keys ≤ 1000 → told_after told (lines_of_text (flat_map (λ key. with_lf (notice_line key)) keys ++ rest))
-    ≡ told_after (record told { notices = told.notices ++ keys }) (lines_of_text rest)
+notices_read : (told : Told) (notices : List SaidNotice) (rest : List ℕ) → AllByRecursion IsReadableNotice notices
+    → length told.notices + length notices ≤ 1000
+    → told_after told (lines_of_text (flat_map (λ notice. with_lf (notice_line notice)) notices ++ rest))
+    ≡ told_after (record told { notices = told.notices ++ notices }) (lines_of_text rest)
 notices_read told [] rest are few = rw (append-nil told.notices) refl
-notices_read told (key ∷ keys) rest are few =
-    let more = flat_map (λ key. with_lf (notice_line key)) keys ++ rest in
+notices_read told (n ∷ notices) rest are few =
+    let more = flat_map (λ notice. with_lf (notice_line notice)) notices ++ rest in
     let whole : room 1000 told.notices ≡ told.notices = room_left 1000 told.notices (omega (arith, few)) in
-    ap (λ (text : List ℕ). told_after told (lines_of_text text)) (shape notice_line key keys rest)
-    ∙ ap (λ (lines : List (List ℕ)). told_after told lines) (first_line (notice_line key) more (HasNo-notice key are.0))
+    ap (λ (text : List ℕ). told_after told (lines_of_text text)) (shape notice_line n notices rest)
+    ∙ ap (λ (lines : List (List ℕ)). told_after told lines) (first_line (notice_line n) more (HasNo-notice n are.0))
     ∙ ap (λ (o : Option Line). option_map_or (λ said. told_after (with_line told said) (lines_of_text more)) o nothing)
-    (notice_read key are.0)
-    ∙ ap (λ (items : List (List ℕ)). told_after (record told { notices = items ++ key ∷ [] }) (lines_of_text more)) whole
-    ∙ notices_read (record told { notices = told.notices ++ key ∷ [] }) keys rest are.1
-    (omega (arith, few, length-append told.notices (key ∷ [])))
-    ∙ ap (λ (items : List (List ℕ)). told_after (record told { notices = items }) (lines_of_text rest))
-    (append_assoc told.notices (key ∷ []) keys)
+    (notice_read n are.0)
+    ∙ ap (λ (items : List SaidNotice). told_after (record told { notices = items ++ n ∷ [] }) (lines_of_text more)) whole
+    ∙ notices_read (record told { notices = told.notices ++ n ∷ [] }) notices rest are.1
+    (omega (arith, few, length-append told.notices (n ∷ [])))
+    ∙ ap (λ (items : List SaidNotice). told_after (record told { notices = items }) (lines_of_text rest))
+    (append_assoc told.notices (n ∷ []) notices)
+
+keys_read : (told : Told) (keys : List (List ℕ)) (rest : List ℕ) → AllByRecursion IsFaultKey keys
+    → length told.large + length keys ≤ 1000 → told_after told (lines_of_text (flat_map (λ key. with_lf (large_line key)) keys ++ rest))
+    ≡ told_after (record told { large = told.large ++ keys }) (lines_of_text rest)
+keys_read told [] rest are few = rw (append-nil told.large) refl
+keys_read told (key ∷ keys) rest are few =
+    let more = flat_map (λ key. with_lf (large_line key)) keys ++ rest in
+    let whole : room 1000 told.large ≡ told.large = room_left 1000 told.large (omega (arith, few)) in
+    ap (λ (text : List ℕ). told_after told (lines_of_text text)) (shape large_line key keys rest)
+    ∙ ap (λ (lines : List (List ℕ)). told_after told lines) (first_line (large_line key) more (HasNo-large key are.0))
+    ∙ ap (λ (o : Option Line). option_map_or (λ said. told_after (with_line told said) (lines_of_text more)) o nothing)
+    (large_read key are.0)
+    ∙ ap (λ (items : List (List ℕ)). told_after (record told { large = items ++ key ∷ [] }) (lines_of_text more)) whole
+    ∙ keys_read (record told { large = told.large ++ key ∷ [] }) keys rest are.1
+    (omega (arith, few, length-append told.large (key ∷ [])))
+    ∙ ap (λ (items : List (List ℕ)). told_after (record told { large = items }) (lines_of_text rest))
+    (append_assoc told.large (key ∷ []) keys)
 
 told_again : (told : Told) → IsKept told → told_in (memory_text told) ≡ told
 told_again told kept =
-    let notices = flat_map (λ key. with_lf (notice_line key)) told.notices ++ end in
-    let more = flat_map (λ fault. with_lf (known_fault_line fault)) told.faults ++ notices in
-    let few_faults : 0 + length told.faults ≤ 16 = omega (arith, kept.few_faults) in
-    let few_notices : 0 + length told.notices ≤ 1000 = omega (arith, kept.few_notices) in
-    let shape : with_lf (left_line told.left) ++ more ≡ left_line told.left ++ 10 ∷ more =
+    let keys = flat_map (λ key. with_lf (large_line key)) told.large ++ end in
+    let notices = flat_map (λ notice. with_lf (notice_line notice)) told.notices ++ keys in
+    let faults = flat_map (λ fault. with_lf (known_fault_line fault)) told.faults ++ notices in
+    let more = with_lf (marks_line told.marks) ++ faults in
+    let left_shape : with_lf (left_line told.left) ++ more ≡ left_line told.left ++ 10 ∷ more =
     append_assoc (left_line told.left) (10 ∷ []) more in
-    ap (λ (text : List ℕ). told_after nothing (lines_of_text text)) shape
+    let marks_shape : more ≡ marks_line told.marks ++ 10 ∷ faults = append_assoc (marks_line told.marks) (10 ∷ []) faults in
+    let with_left = record nothing { left = told.left } in
+    ap (λ (text : List ℕ). told_after nothing (lines_of_text text)) left_shape
     ∙ ap (λ (lines : List (List ℕ)). told_after nothing lines) (first_line (left_line told.left) more (HasNo-left told.left kept.left))
     ∙ ap (λ (o : Option Line). option_map_or (λ said. told_after (with_line nothing said) (lines_of_text more)) o
-    nothing) (left_read told.left kept.left) ∙ faults_read (record nothing { left = told.left }) told.faults notices
-    (recursion_from_All IsReadableFault told.faults kept.faults) few_faults
-    ∙ notices_read (record told { notices = [] }) told.notices end (recursion_from_All IsFaultKey told.notices kept.notices) few_notices
+    nothing) (left_read told.left kept.left)
+    ∙ ap (λ (text : List ℕ). told_after with_left (lines_of_text text)) marks_shape
+    ∙ ap (λ (lines : List (List ℕ)). told_after with_left lines)
+    (first_line (marks_line told.marks) faults (HasNo-marks told.marks kept.marks))
+    ∙ ap (λ (o : Option Line). option_map_or (λ said. told_after (with_line with_left said) (lines_of_text faults)) o
+    nothing) (marks_read told.marks kept.marks)
+    ∙ faults_read (record nothing { left = told.left; marks = told.marks }) told.faults notices
+    (recursion_from_All IsReadableFault told.faults kept.faults.each) (omega (arith, kept.faults.few))
+    ∙ notices_read (record told { notices = []; large = [] }) told.notices keys
+    (recursion_from_All IsReadableNotice told.notices kept.notices.each) (omega (arith, kept.notices.few))
+    ∙ keys_read (record told { large = [] }) told.large end
+    (recursion_from_All IsFaultKey told.large kept.large.each) (omega (arith, kept.large.few))
 
 fault_fits : (f : KnownFault) → IsReadableFault f → length (with_lf (known_fault_line f)) ≤ 134
 fault_fits f is =
@@ -263,26 +349,46 @@ fault_fits f is =
       length-numbers f.times.since f.times.told f.times.runs is.times,
     )
 
-notice_fits : (key : List ℕ) → IsFaultKey key → length (with_lf (notice_line key)) ≤ 70
-notice_fits key is = omega (arith, length-append (notice_line key) (10 ∷ []), is.0)
+notice_fits : (n : SaidNotice) → IsReadableNotice n → length (with_lf (notice_line n)) ≤ 91
+notice_fits n is =
+    omega (
+      arith,
+      length-append (notice_line n) (10 ∷ []),
+      length-append n.key (32 ∷ decimal n.told),
+      is.key.0,
+      length-number n.told is.told,
+    )
 
-text_fits : (told : Told) → IsKept told → length (memory_text told) ≤ 131072
+large_fits : (key : List ℕ) → IsFaultKey key → length (with_lf (large_line key)) ≤ 71
+large_fits key is = omega (arith, length-append (large_line key) (10 ∷ []), is.0)
+
+text_fits : (told : Told) → IsKept told → length (memory_text told) ≤ 196608
 text_fits told kept =
-    let notices = flat_map (λ key. with_lf (notice_line key)) told.notices in
+    let keys = flat_map (λ key. with_lf (large_line key)) told.large in
+    let notices = flat_map (λ notice. with_lf (notice_line notice)) told.notices in
     let faults = flat_map (λ fault. with_lf (known_fault_line fault)) told.faults in
     omega (
       arith,
-      length-append (with_lf (left_line told.left)) (faults ++ (notices ++ end)),
+      length-append (with_lf (left_line told.left)) (with_lf (marks_line told.marks) ++ (faults ++ (notices ++ (keys ++ end)))),
+      length-append (with_lf (marks_line told.marks)) (faults ++ (notices ++ (keys ++ end))),
       length-append (left_line told.left) (10 ∷ []),
-      length-numbers told.left.too_large told.left.past_limit told.left.repeated kept.left,
-      length-append faults (notices ++ end),
-      length-append notices end,
+      length-append (marks_line told.marks) (10 ∷ []),
+      length-numbers told.left.unnamed told.left.limited told.left.repeated kept.left,
+      length-numbers told.marks.ended told.marks.failing told.marks.met kept.marks,
+      length-append faults (notices ++ (keys ++ end)),
+      length-append notices (keys ++ end),
+      length-append keys end,
       length-flat_map (λ fault. with_lf (known_fault_line fault)) told.faults,
-      length-flat_map (λ key. with_lf (notice_line key)) told.notices,
-      sum_by-le (λ fault. length (with_lf (known_fault_line fault))) 134 told.faults (λ k d inside. fault_fits _ (kept.faults k d inside)),
-      sum_by-le (λ key. length (with_lf (notice_line key))) 70 told.notices (λ k d inside. notice_fits _ (kept.notices k d inside)),
-      kept.few_faults,
-      kept.few_notices,
+      length-flat_map (λ notice. with_lf (notice_line notice)) told.notices,
+      length-flat_map (λ key. with_lf (large_line key)) told.large,
+      sum_by-le (λ fault. length (with_lf (known_fault_line fault))) 134 told.faults
+          (λ k d inside. fault_fits _ (kept.faults.each k d inside)),
+      sum_by-le (λ notice. length (with_lf (notice_line notice))) 91 told.notices
+          (λ k d inside. notice_fits _ (kept.notices.each k d inside)),
+      sum_by-le (λ key. length (with_lf (large_line key))) 71 told.large (λ k d inside. large_fits _ (kept.large.each k d inside)),
+      kept.faults.few,
+      kept.notices.few,
+      kept.large.few,
     )
 
 pub read_back : (told value : Told) → IsKept told → told ≡ value → IsReadBack value
@@ -303,56 +409,114 @@ length-room most items some few = elim (cases_lt (length items) most) [
   | inr full ↦ rw (le-ltb (length items) most full) (omega (arith, few, full, some, length-drop 1 items))
 ]
 
-pub fault_kept : {T E : Type 0} (faults items : List KnownFault) (left : Counts) (notices : List (List ℕ))
-    (fault : KnownFault) (result : Result T E)
-    → OnOk result (items ≡ room 16 faults ++ fault ∷ []) → OnErr result (items ≡ room 16 faults) → IsReadableFault fault
-    → IsKept (record { faults = faults; left = left; notices = notices })
-    → IsKept (record { faults = items; left = left; notices = notices })
-fault_kept faults items left notices fault (Ok value) ok err is kept = rw ok (record {
-  faults = All-push IsReadableFault (room 16 faults) fault (All-room IsReadableFault 16 faults kept.faults) is;
-  left = kept.left;
-  notices = kept.notices;
-  few_faults = omega (arith, length-append (room 16 faults) (fault ∷ []), length-room 16 faults (omega arith) kept.few_faults);
-  few_notices = kept.few_notices;
+-- a list that an item was added to, or none for want of memory
+few_pushed : {X T E : Type 0} (P : X → Type 0) (most : ℕ) (old items : List X) (item : X) (result : Result T E) → 0 < most
+    → OnOk result (items ≡ room most old ++ item ∷ []) → OnErr result (items ≡ room most old) → P item → AreFew P most old
+    → AreFew P most items
+few_pushed P most old items item (Ok value) some ok err is kept = rw ok (record {
+  each = All-push P (room most old) item (All-room P most old kept.each) is;
+  few = omega (arith, length-append (room most old) (item ∷ []), length-room most old some kept.few);
 })
-fault_kept faults items left notices fault (Err e) ok err is kept = rw err (record {
-  faults = All-room IsReadableFault 16 faults kept.faults;
-  left = kept.left;
-  notices = kept.notices;
-  few_faults = omega (arith, length-room 16 faults (omega arith) kept.few_faults);
-  few_notices = kept.few_notices;
+few_pushed P most old items item (Err e) some ok err is kept = rw err (record {
+  each = All-room P most old kept.each;
+  few = omega (arith, length-room most old some kept.few);
 })
 
-pub notice_kept : {T E : Type 0} (faults : List KnownFault) (left : Counts) (notices items : List (List ℕ))
-    (key : List ℕ) (result : Result T E)
-    → OnOk result (items ≡ room 1000 notices ++ key ∷ []) → OnErr result (items ≡ room 1000 notices) → IsFaultKey key
-    → IsKept (record { faults = faults; left = left; notices = notices })
-    → IsKept (record { faults = faults; left = left; notices = items })
-notice_kept faults left notices items key (Ok value) ok err is kept = rw ok (record {
-  faults = kept.faults;
-  left = kept.left;
-  notices = All-push IsFaultKey (room 1000 notices) key (All-room IsFaultKey 1000 notices kept.notices) is;
-  few_faults = kept.few_faults;
-  few_notices = omega (arith, length-append (room 1000 notices) (key ∷ []), length-room 1000 notices (omega arith) kept.few_notices);
-})
-notice_kept faults left notices items key (Err e) ok err is kept = rw err (record {
-  faults = kept.faults;
-  left = kept.left;
-  notices = All-room IsFaultKey 1000 notices kept.notices;
-  few_faults = kept.few_faults;
-  few_notices = omega (arith, length-room 1000 notices (omega arith) kept.few_notices);
-})
+few_filtered : {X : Type 0} (P : X → Type 0) (most : ℕ) (p : X → Bool) (items : List X) → AreFew P most items
+    → AreFew P most (filter p items)
+few_filtered P most p items kept = record {
+  each = All-filter p P items kept.each;
+  few = omega (arith, kept.few, length-filter p items, count_by-le-length p items);
+}
 
-pub removed_kept : (faults items : List KnownFault) (left : Counts) (notices : List (List ℕ)) (place : ℕ)
-    → place < length faults → items ≡ remove faults place → IsKept (record { faults = faults; left = left; notices = notices })
-    → IsKept (record { faults = items; left = left; notices = notices })
-removed_kept faults items left notices place inside is kept = rw is (record {
-  faults = All-append IsReadableFault (take place faults) (drop (suc place) faults)
-      (All-take IsReadableFault place faults kept.faults) (All-drop IsReadableFault (suc place) faults kept.faults);
+pub fault_kept : {T E : Type 0} (told : Told) (items : List KnownFault) (fault : KnownFault) (result : Result T E)
+    → OnOk result (items ≡ room 16 told.faults ++ fault ∷ []) → OnErr result (items ≡ room 16 told.faults) → IsReadableFault fault
+    → IsKept told → IsKept (record told { faults = items })
+fault_kept told items fault result ok err is kept = record {
+  faults = few_pushed IsReadableFault 16 told.faults items fault result (omega arith) ok err is kept.faults;
   left = kept.left;
+  marks = kept.marks;
   notices = kept.notices;
-  few_faults = omega (arith, kept.few_faults, length-remove faults place inside);
-  few_notices = kept.few_notices;
-})
+  large = kept.large;
+}
+
+pub notice_kept : {T E : Type 0} (told : Told) (items : List SaidNotice) (notice : SaidNotice) (result : Result T E)
+    → OnOk result (items ≡ room 1000 told.notices ++ notice ∷ []) → OnErr result (items ≡ room 1000 told.notices)
+    → IsReadableNotice notice → IsKept told → IsKept (record told { notices = items })
+notice_kept told items notice result ok err is kept = record {
+  faults = kept.faults;
+  left = kept.left;
+  marks = kept.marks;
+  notices = few_pushed IsReadableNotice 1000 told.notices items notice result (omega arith) ok err is kept.notices;
+  large = kept.large;
+}
+
+pub large_kept : {T E : Type 0} (told : Told) (items : List (List ℕ)) (key : List ℕ) (result : Result T E)
+    → OnOk result (items ≡ room 1000 told.large ++ key ∷ []) → OnErr result (items ≡ room 1000 told.large)
+    → IsFaultKey key → IsKept told → IsKept (record told { large = items })
+large_kept told items key result ok err is kept = record {
+  faults = kept.faults;
+  left = kept.left;
+  marks = kept.marks;
+  notices = kept.notices;
+  large = few_pushed IsFaultKey 1000 told.large items key result (omega arith) ok err is kept.large;
+}
+
+pub removed_kept : (told : Told) (place : ℕ) → place < length told.faults → IsKept told
+    → IsKept (record told { faults = remove told.faults place })
+removed_kept told place inside kept = record {
+  faults = record {
+    each = All-append IsReadableFault (take place told.faults) (drop (suc place) told.faults)
+        (All-take IsReadableFault place told.faults kept.faults.each) (All-drop IsReadableFault (suc place) told.faults kept.faults.each);
+    few = omega (arith, kept.faults.few, length-remove told.faults place inside);
+  };
+  left = kept.left;
+  marks = kept.marks;
+  notices = kept.notices;
+  large = kept.large;
+}
+
+pub replaced_kept : (told : Told) (place : ℕ) (fault : KnownFault) → IsReadableFault fault → IsKept told
+    → IsKept (record told { faults = set told.faults place fault })
+replaced_kept told place fault is kept = record {
+  faults = record {
+    each = All-set IsReadableFault told.faults place fault is kept.faults.each;
+    few = omega (arith, kept.faults.few, length-set told.faults place fault);
+  };
+  left = kept.left;
+  marks = kept.marks;
+  notices = kept.notices;
+  large = kept.large;
+}
+
+pub faults_filtered : (told : Told) (items : List KnownFault) (p : KnownFault → Bool) → items ≡ filter p told.faults → IsKept told
+    → IsKept (record told { faults = items })
+faults_filtered told items p is kept = record {
+  faults = subst (AreFew IsReadableFault 16) (sym is) (few_filtered IsReadableFault 16 p told.faults kept.faults);
+  left = kept.left;
+  marks = kept.marks;
+  notices = kept.notices;
+  large = kept.large;
+}
+
+pub notices_filtered : (told : Told) (items : List SaidNotice) (p : SaidNotice → Bool) → items ≡ filter p told.notices → IsKept told
+    → IsKept (record told { notices = items })
+notices_filtered told items p is kept = record {
+  faults = kept.faults;
+  left = kept.left;
+  marks = kept.marks;
+  notices = subst (AreFew IsReadableNotice 1000) (sym is) (few_filtered IsReadableNotice 1000 p told.notices kept.notices);
+  large = kept.large;
+}
+
+pub large_filtered : (told : Told) (items : List (List ℕ)) (p : List ℕ → Bool) → items ≡ filter p told.large → IsKept told
+    → IsKept (record told { large = items })
+large_filtered told items p is kept = record {
+  faults = kept.faults;
+  left = kept.left;
+  marks = kept.marks;
+  notices = kept.notices;
+  large = subst (AreFew IsFaultKey 1000) (sym is) (few_filtered IsFaultKey 1000 p told.large kept.large);
+}
 
 pub ruleset line_laws = (line_taken, line_ends, line_odd, text_over)

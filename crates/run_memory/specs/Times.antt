@@ -1,44 +1,54 @@
--- What an unattended run tells, by what earlier ones told.
-use Rattle.std.specs.Prelude.{◌+◌, ◌-◌, ◌^◌, ◌&&◌, ◌||◌, ℕ, Bool, true, false, Option, None, Some, max, min, nat_le}
-use Rattle.std.specs.Prelude.{nat_lt, if◌then◌else◌}
-use Rattle.run_memory.specs.declared.times.{
-  Counts.Counts,
-  Telling.{Telling, TheVariants.{First, Again, Nothing}},
-  Times.Times,
-}
+-- What an unattended run tells, by when it was told before. Times are seconds since 1970; a mark of 0 is none.
+use Rattle.std.specs.Prelude.{◌+◌, ◌-◌, ◌^◌, ◌==◌, ◌||◌, ℕ, Bool, Option, None, Some, min, nat_le, nat_lt}
+use Rattle.std.specs.Prelude.{if◌then◌else◌}
+use Rattle.run_memory.specs.declared.times.{Telling.{Telling, TheVariants.{First, Again, Nothing}}, Times.Times}
 
--- so many seconds have passed, or the clock was set back
-abbrev pub has_passed : ℕ → ℕ → ℕ → Bool
-has_passed seconds before now = nat_lt now before || nat_le seconds (now - before)
+abbrev pub hour : ℕ
+hour = 3600
 
--- a fault is told when it is first seen, and then once a day
-abbrev pub told_of : Option Times → ℕ → Telling
-told_of None now = First
-told_of (Some times) now = if has_passed 86400 times.told now then Again else Nothing
+abbrev pub day : ℕ
+day = 86400
 
--- since when a fault is seen, when it was told last, and in how many runs it was seen
-abbrev pub after : Option Times → ℕ → Times
-after None now = record { since = now; told = now; runs = 1 }
-after (Some times) now = record {
+abbrev pub week : ℕ
+week = 604800
+
+-- there is no mark, or one that is still to come: the clock was ahead
+abbrev pub is_void : ℕ → ℕ → Bool
+is_void mark now = (mark == 0) || nat_lt now mark
+
+-- a mark counts as none, or so many seconds have passed since
+abbrev pub is_over : ℕ → ℕ → ℕ → Bool
+is_over seconds mark now = is_void mark now || nat_le seconds (now - mark)
+
+-- since when something lasts that lasts now
+abbrev pub begun : ℕ → ℕ → ℕ
+begun mark now = if is_void mark now then now else mark
+
+-- a fault that is seen for the first time
+abbrev pub first_times : ℕ → Times
+first_times now = record { since = now; told = now; runs = 1 }
+
+-- a fault that was seen before, and is told now or was told less than a day ago
+abbrev pub later_times : Times → ℕ → Times
+later_times times now = record {
   since = times.since;
-  told = if has_passed 86400 times.told now then now else times.told;
+  told = if nat_le day (now - times.told) then now else times.told;
   runs = min (times.runs + 1) (2 ^ 64 - 1);
 }
 
--- another run has been at work for an hour
-abbrev pub is_long_held : ℕ → ℕ → Bool
-is_long_held since now = nat_le since now && nat_le 3600 (now - since)
+-- when a fault was seen, once it is seen now too
+abbrev pub times_after : Option Times → ℕ → Times
+times_after None now = first_times now
+times_after (Some times) now = if is_void times.told now then first_times now else later_times times now
 
--- what is left out is told if there is more of it, for one reason or another
-abbrev pub has_more : Counts → Counts → Bool
-has_more old new =
-    nat_lt old.too_large new.too_large || (nat_lt old.past_limit new.past_limit || nat_lt old.repeated new.repeated)
+-- a fault is told unless it was told less than a day ago, whether or not it went away since
+abbrev pub telling_of : Option Times → ℕ → Telling
+telling_of None now = First
+telling_of (Some times) now =
+    if is_void times.told now then First
+    else if nat_le day (now - times.told) then Again (later_times times now) else Nothing
 
--- the counts of a run that ended take the place of those before it; one that was cut only adds to them
-abbrev pub counts_after : Counts → Counts → Bool → Counts
-counts_after old new true = new
-counts_after old new false = record {
-  too_large = max old.too_large new.too_large;
-  past_limit = max old.past_limit new.past_limit;
-  repeated = max old.repeated new.repeated;
-}
+-- the lock of another run was taken at a mark of its own, or else first met at one of this account's runs: it is told
+-- after an hour
+abbrev pub is_long_held : ℕ → ℕ → ℕ → Bool
+is_long_held held met now = nat_le hour (now - (if is_void held now then begun met now else held))

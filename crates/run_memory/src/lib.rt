@@ -5,9 +5,11 @@ mod field;
 mod key;
 mod line;
 mod memory;
+mod news;
+mod run;
 mod times;
 
 pub use key::Key;
-pub use line::KnownFault;
 pub use memory::{MOST_OCTETS, Memory};
-pub use times::{Counts, Telling, Times, after, counts_after, has_more, is_long_held, told_of};
+pub use run::{Counts, News, Notice, Run};
+pub use times::{Telling, Times, is_long_held};

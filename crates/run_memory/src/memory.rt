@@ -2,38 +2,44 @@
 ghost use Rattle.std.specs.Prelude.{◌≡◌, ◌<◌, ◌≤◌, ◌++◌, ◌∷◌, [], bytes_eq, flat_map, length, position, IfOk, IfSome};
 ghost use Rattle.std.specs.Prelude.{OnErr, OnOk};
 ghost use Rattle.run_memory.specs.{
-  Lines.{AreNumbers, known_fault_line, notice_line},
-  Memory.{IsReadBack, with_lf, nothing, room, memory_text, told_in, with_fault, with_line, with_notice, told_without},
+  Lines.{AreNumbers, known_fault_line, large_line, notice_line},
+  Memory.{IsReadBack, with_lf, nothing, room, memory_text, told_in, with_fault, with_large, with_line, with_notice},
 };
 
 use crate::key::Key;
-use crate::line::{KnownFault, Line, put_fault, put_left, put_notice, read_line};
-use crate::times::{Counts, Times};
+use crate::line::{
+    KnownFault, Line, SaidNotice, put_fault, put_large, put_left, put_marks, put_notice, read_line,
+};
+use crate::run::{LeftMarks, RunMarks};
 use mail_terms::cut_text;
 use std::alloc::{AllocError, Global};
 use std::marker::Model;
 
 /// The first line, and its LF.
-const HEADER: &[u8] = b"getmail-told 1\n";
+const HEADER: &[u8] = b"getmail-told 2\n";
 
 /// The last line.
 const END: &[u8] = b"end";
 
 /// How many octets such a file has at most.
-pub const MOST_OCTETS: u64 = 131_072;
+pub const MOST_OCTETS: u64 = 196_608;
 
-/// How many faults are kept, and how many notices: the last ones.
+/// How many faults are kept, how many notices and how many messages that are too large: the last ones.
 const FAULTS: usize = 16;
 
 const NOTICES: usize = 1_000;
 
-/// What earlier runs told: the faults that were seen, how many messages were left out of the last run, and which
-/// notices were told.
+const LARGE: usize = 1_000;
+
+/// What earlier runs told: the faults that were seen, in the order in which they were told last, what is known of
+/// messages that were left out, times of the account, which notices were told, and which messages are too large.
 #[derive(Drop)]
 pub struct Memory {
-    faults: Vec<KnownFault>,
-    left: Counts,
-    notices: Vec<Key>,
+    pub(crate) faults: Vec<KnownFault>,
+    pub(crate) left: LeftMarks,
+    pub(crate) marks: RunMarks,
+    pub(crate) notices: Vec<SaidNotice>,
+    pub(crate) large: Vec<Key>,
 }
 
 impl Model for Memory {
@@ -41,9 +47,21 @@ impl Model for Memory {
 
     ghost Value = { Told };
 
-    ghost view = { λ m. record { faults = m.faults.items; left = m.left; notices = m.notices.items } };
+    ghost view = { λ m. record {
+      faults = m.faults.items;
+      left = m.left;
+      marks = m.marks;
+      notices = m.notices.items;
+      large = m.large.items;
+    } };
 
-    ghost invariant = { λ m. IsKept (record { faults = m.faults.items; left = m.left; notices = m.notices.items }) };
+    ghost invariant = { λ m. IsKept (record {
+      faults = m.faults.items;
+      left = m.left;
+      marks = m.marks;
+      notices = m.notices.items;
+      large = m.large.items;
+    }) };
 }
 
 /// Adds an item to the last ones of a list.
@@ -76,12 +94,23 @@ fn put_faults(alloc: Global, text: &mut Vec<u8>, faults: &[KnownFault]) -> Resul
 }
 
 /// Adds the lines of notices.
-fn put_notices(text: &mut Vec<u8>, notices: &[Key]) -> Result<(), AllocError>
+fn put_notices(alloc: Global, text: &mut Vec<u8>, notices: &[SaidNotice]) -> Result<(), AllocError>
     ensures { OnOk result (text.new.items
-        ≡ text.old.items ++ flat_map (λ key. with_lf (notice_line key)) notices.now) }
+        ≡ text.old.items ++ flat_map (λ notice. with_lf (notice_line notice)) notices.now) }
 {
-    for key in notices {
-        put_notice(text, key)?;
+    for notice in notices {
+        put_notice(alloc, text, notice)?;
+    }
+    Ok(())
+}
+
+/// Adds the lines of messages that are too large.
+fn put_keys(text: &mut Vec<u8>, keys: &[Key]) -> Result<(), AllocError>
+    ensures { OnOk result (text.new.items
+        ≡ text.old.items ++ flat_map (λ key. with_lf (large_line key)) keys.now) }
+{
+    for key in keys {
+        put_large(text, key)?;
     }
     Ok(())
 }
@@ -93,32 +122,47 @@ impl Memory {
     {
         Memory {
             faults: Vec::new(alloc),
-            left: Counts {
-                too_large: 0,
-                past_limit: 0,
+            left: LeftMarks {
+                unnamed: 0,
+                limited: 0,
                 repeated: 0,
             },
+            marks: RunMarks {
+                ended: 0,
+                failing: 0,
+                met: 0,
+            },
             notices: Vec::new(alloc),
+            large: Vec::new(alloc),
         }
     }
 
-    /// The counts of the last run.
-    pub fn set_left(&mut self, left: Counts)
+    /// What is known of messages that were left out.
+    pub(crate) fn set_left(&mut self, left: LeftMarks)
         ensures { self.new ≡ record self.old { left = left } }
     {
+        fit(left.unnamed, left.limited, left.repeated);
         self.left = left;
     }
 
-    /// How many messages were left out of the last run.
-    pub fn left(&self) -> Counts
-        ensures { result ≡ self.now.left }
+    /// The times of the account.
+    pub(crate) fn set_marks(&mut self, marks: RunMarks)
+        ensures { self.new ≡ record self.old { marks = marks } }
     {
-        self.left
+        fit(marks.ended, marks.failing, marks.met);
+        self.marks = marks;
+    }
+
+    /// Since when another run's lock is met.
+    pub fn met(&self) -> u64
+        ensures { result ≡ self.now.marks.met }
+    {
+        self.marks.met
     }
 
     /// Adds a fault. If there are 16, the first one is forgotten, also if there is no memory.
-    fn add_fault(&mut self, fault: KnownFault) -> Result<(), AllocError>
-        ensures ok { OnOk result (self.new ≡ with_fault self.old fault) }
+    pub(crate) fn add_fault(&mut self, fault: KnownFault) -> Result<(), AllocError>
+        ensures ok { OnOk result (self.new ≡ record self.old { faults = with_fault self.old.faults fault }) }
     {
         // For the proof alone: the key and the numbers can be read back.
         let _ = fault.key.as_slice();
@@ -127,61 +171,30 @@ impl Memory {
     }
 
     /// Adds a notice. If there are 1,000, the first one is forgotten, also if there is no memory.
-    pub fn keep_notice(&mut self, key: Key) -> Result<(), AllocError>
-        ensures ok { OnOk result (self.new ≡ with_notice self.old key) }
+    pub(crate) fn add_notice(&mut self, notice: SaidNotice) -> Result<(), AllocError>
+        ensures ok { OnOk result (self.new ≡ record self.old { notices = with_notice self.old.notices notice }) }
+    {
+        // For the proof alone: the key and the number can be read back.
+        let _ = notice.key.as_slice();
+        fit(notice.told, 0, 0);
+        push_last(&mut self.notices, notice, NOTICES)
+    }
+
+    /// Adds a message that is too large. If there are 1,000, the first one is forgotten, also if there is no memory.
+    pub(crate) fn add_large(&mut self, key: Key) -> Result<(), AllocError>
+        ensures ok { OnOk result (self.new ≡ record self.old { large = with_large self.old.large key }) }
     {
         // For the proof alone: the key can be read back.
         let _ = key.as_slice();
-        push_last(&mut self.notices, key, NOTICES)
+        push_last(&mut self.large, key, LARGE)
     }
 
     /// The place of the first fault of a key.
-    fn place_of(&self, key: Key) -> Option<usize>
+    pub(crate) fn place_of(&self, key: Key) -> Option<usize>
         ensures place { result ≡ position (λ fault. bytes_eq fault.key key) self.now.faults }
         ensures within { IfSome result (λ place. place < length self.now.faults) }
     {
         self.faults.iter().position(|known| known.key == key)
-    }
-
-    /// Forgets the first fault of a key.
-    #[tactic(auto, using(crate::proofs::MemoryLemmas::removed_kept))]
-    fn forget(&mut self, key: Key)
-        ensures { self.new ≡ told_without self.old key }
-    {
-        if let Some(place) = self.place_of(key) {
-            self.faults.remove(place);
-        }
-    }
-
-    /// A fault was seen at these times, and comes last.
-    pub fn keep_fault(&mut self, fault: KnownFault) -> Result<(), AllocError>
-        ensures { OnOk result (self.new ≡ with_fault (told_without self.old fault.key) fault) }
-    {
-        self.forget(fault.key);
-        self.add_fault(fault)
-    }
-
-    /// When a fault was seen, if it was.
-    pub fn times_of(&self, key: Key) -> Option<Times> {
-        let place = self.place_of(key)?;
-        Some(self.faults[place].times)
-    }
-
-    /// Whether a notice was told.
-    pub fn has_told(&self, key: Key) -> bool {
-        self.notices.iter().any(|notice| *notice == key)
-    }
-
-    /// When the first of the faults was first seen.
-    pub fn failing_since(&self) -> Option<u64> {
-        self.faults.iter().map(|known| known.times.since).min()
-    }
-
-    /// Forgets the faults.
-    pub fn forget_faults(&mut self)
-        ensures { self.new ≡ record self.old { faults = [] } }
-    {
-        self.faults.clear();
     }
 
     /// Takes what a line says.
@@ -193,8 +206,13 @@ impl Memory {
                 self.set_left(left);
                 Ok(())
             }
+            Line::Marks(marks) => {
+                self.set_marks(marks);
+                Ok(())
+            }
             Line::Fault(fault) => self.add_fault(fault),
-            Line::Notice(key) => self.keep_notice(key),
+            Line::Notice(notice) => self.add_notice(notice),
+            Line::Large(key) => self.add_large(key),
         }
     }
 
@@ -237,8 +255,10 @@ impl Memory {
         self.is_read_back();
         let mut text = Vec::from_slice(alloc, HEADER)?;
         put_left(alloc, &mut text, self.left)?;
+        put_marks(alloc, &mut text, self.marks)?;
         put_faults(alloc, &mut text, &self.faults)?;
-        put_notices(&mut text, &self.notices)?;
+        put_notices(alloc, &mut text, &self.notices)?;
+        put_keys(&mut text, &self.large)?;
         text.extend_from_slice(END)?;
         Ok(text)
     }

@@ -1,12 +1,12 @@
-//! What an unattended run tells, by what earlier ones told.
+//! What an unattended run tells, by when it was told before. Times are seconds since 1970; a mark of 0 is none.
 ghost use Rattle.std.specs.Prelude.{◌≡◌};
-ghost use Rattle.run_memory.specs.Times.{after, counts_after, has_more, has_passed, is_long_held, told_of};
+ghost use Rattle.run_memory.specs.Times.{begun, first_times, is_long_held, is_over, is_void, later_times, telling_of};
+ghost use Rattle.run_memory.specs.Times.{times_after};
 
-/// How many seconds a fault that goes on isn't told again.
-const DAY: u64 = 86_400;
-
-/// For how many seconds another run may be at work before that is told.
 const HOUR: u64 = 3_600;
+
+/// How many seconds a fault that was told isn't told again.
+pub(crate) const DAY: u64 = 86_400;
 
 /// When a fault was seen, in seconds since 1970, and in how many runs.
 #[derive(Clone, Copy, Debug, PartialEq, Eq)]
@@ -19,94 +19,96 @@ pub struct Times {
     pub runs: u64,
 }
 
-/// How many messages were left out.
-#[derive(Clone, Copy, Debug, PartialEq, Eq)]
-pub struct Counts {
-    pub too_large: u64,
-    pub past_limit: u64,
-    pub repeated: u64,
-}
-
 /// What is told of a fault.
 #[derive(Clone, Copy, Debug, PartialEq, Eq)]
 pub enum Telling {
-    /// The fault, for the first time.
+    /// The fault, as a new one.
     First,
-    /// The fault, and since when it is seen.
-    Again,
+    /// The fault, since when it is seen, and in how many runs.
+    Again(Times),
     /// Nothing.
     Nothing,
 }
 
-/// Whether so many seconds have passed since then. A time that is still to come was one of another clock.
-fn has_passed(seconds: u64, then: u64, now: u64) -> bool
-    ensures { result ≡ has_passed seconds then now }
+/// Whether a mark counts as none: there is none, or it is still to come, since the clock was ahead.
+fn is_void(mark: u64, now: u64) -> bool
+    ensures { result ≡ is_void mark now }
 {
-    now < then || now - then >= seconds
+    mark == 0 || now < mark
+}
+
+/// Whether so many seconds have passed since a mark. They have if it counts as none.
+pub(crate) fn is_over(seconds: u64, mark: u64, now: u64) -> bool
+    ensures { result ≡ is_over seconds mark now }
+{
+    is_void(mark, now) || now - mark >= seconds
+}
+
+/// Since when something lasts that lasts now.
+pub(crate) fn begun(mark: u64, now: u64) -> u64
+    ensures { result ≡ begun mark now }
+{
+    if is_void(mark, now) { now } else { mark }
+}
+
+/// The times of a fault that is seen for the first time.
+fn first_times(now: u64) -> Times
+    ensures { result ≡ first_times now }
+{
+    Times {
+        since: now,
+        told: now,
+        runs: 1,
+    }
+}
+
+/// The times of a fault that was seen before, once it is seen now too.
+fn later_times(times: Times, now: u64) -> Times
+    ensures { result ≡ later_times times now }
+{
+    let is_told = now.saturating_sub(times.told) >= DAY;
+    Times {
+        since: times.since,
+        told: if is_told { now } else { times.told },
+        runs: times.runs.saturating_add(1),
+    }
+}
+
+/// When a fault was seen, once it is seen now too.
+pub(crate) fn times_after(known: Option<Times>, now: u64) -> Times
+    ensures { result ≡ times_after known now }
+{
+    match known {
+        Some(times) if !is_void(times.told, now) => later_times(times, now),
+        _ => first_times(now),
+    }
 }
 
 /// What is told of a fault that was seen before at these times, or wasn't.
-pub fn told_of(known: Option<Times>, now: u64) -> Telling
-    ensures { result ≡ told_of known now }
+pub(crate) fn telling_of(known: Option<Times>, now: u64) -> Telling
+    ensures { result ≡ telling_of known now }
 {
     match known {
-        None => Telling::First,
-        Some(times) => {
-            if has_passed(DAY, times.told, now) {
-                Telling::Again
+        Some(times) if !is_void(times.told, now) => {
+            if now.saturating_sub(times.told) >= DAY {
+                Telling::Again(later_times(times, now))
             } else {
                 Telling::Nothing
             }
         }
+        _ => Telling::First,
     }
 }
 
-/// When a fault was seen, once it was seen now too.
-pub fn after(known: Option<Times>, now: u64) -> Times
-    ensures { result ≡ after known now }
+/// Whether another run has been at work for too long: for an hour since the mark of its lock or, if that counts as
+/// none, since a run first met it.
+pub fn is_long_held(held: u64, met: u64, now: u64) -> bool
+    ensures { result ≡ is_long_held held met now }
 {
-    match known {
-        None => Times {
-            since: now,
-            told: now,
-            runs: 1,
-        },
-        Some(times) => Times {
-            since: times.since,
-            told: if has_passed(DAY, times.told, now) {
-                now
-            } else {
-                times.told
-            },
-            runs: times.runs.saturating_add(1),
-        },
-    }
-}
-
-/// Whether another run has been at work for too long.
-pub fn is_long_held(since: u64, now: u64) -> bool
-    ensures { result ≡ is_long_held since now }
-{
-    now >= since && now - since >= HOUR
-}
-
-/// Whether more messages were left out, for one reason or another, than in the run before.
-pub fn has_more(old: Counts, new: Counts) -> bool
-    ensures { result ≡ has_more old new }
-{
-    new.too_large > old.too_large || new.past_limit > old.past_limit || new.repeated > old.repeated
-}
-
-/// How many messages count as told. A run that was cut may not have come to all of them.
-pub fn counts_after(old: Counts, new: Counts, has_ended: bool) -> Counts
-    ensures { result ≡ counts_after old new has_ended }
-{
-    if has_ended {
-        return new;
-    }
-    Counts {
-        too_large: old.too_large.max(new.too_large),
-        past_limit: old.past_limit.max(new.past_limit),
-        repeated: old.repeated.max(new.repeated),
-    }
+    let since = if is_void(held, now) {
+        begun(met, now)
+    } else {
+        held
+    };
+    now.saturating_sub(since) >= HOUR
 }

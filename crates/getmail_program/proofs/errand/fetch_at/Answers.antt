@@ -14,13 +14,13 @@ returns-clause-fetches g c =
         record_made = rw c.as_str-record.ensures.value at c.record_file-seen_file.ensures;
         left = c.fetch_into-fetched.new.account;
         wire' = c.fetch_into-fetched.new.wire.wire;
-        holds = rw (made, c.new-wire.ensures) at holds;
+        holds = rw (made, c.shown-wire.ensures) at holds;
         same = rw made at did.same;
       },
       record {
         fetched = c.fetch_into-fetched.result;
         errors' = c.fetch_into-fetched.new.errors;
-        tells = rw (made, c.new-wire.ensures) at tells;
+        tells = rw (made, c.shown-wire.ensures) at tells;
         status_is = c.into_status.ensures;
       },
     )

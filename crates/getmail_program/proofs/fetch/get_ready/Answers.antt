@@ -48,7 +48,7 @@ returns-then-is_patient-clause-err g c = (
     inr (
       c.in-Ok-set_up.setup,
       c.in-Ok-set_up.ensures.ok,
-      inl (rw c.is_unattended.ensures at (c.is_patient.ensures c.if-is_patient.true), refl),
+      inl (c.is_patient.ensures c.if-is_patient.true, refl),
     ),
   ),
 )

@@ -3,6 +3,12 @@ use Rattle.run_memory.proofs.memory.Memory.add_fault.Goals as goal
 
 pub invariant_of-self : goal.invariant_of-self
 invariant_of-self c =
-    fault_kept c.self.inside.faults.items c.push_last.new.items.items c.self.inside.left c.self.inside.notices.items
-    c.args.fault c.push_last.result c.push_last.ensures.ok
+    fault_kept (record {
+      faults = c.self.inside.faults.items;
+      left = c.self.inside.left;
+      marks = c.self.inside.marks;
+      notices = c.self.inside.notices.items;
+      large = c.self.inside.large.items;
+    })
+    c.push_last.new.items.items c.args.fault c.push_last.result c.push_last.ensures.ok
     c.push_last.ensures.err (record { key = c.as_slice.ensures.digits; times = c.fit.ensures }) c.self.invariant

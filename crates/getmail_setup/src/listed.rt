@@ -1,0 +1,96 @@
+//! The messages of a listing that are over the size limit, as the rows of the listing name them.
+use mail_store::account_id;
+use mail_terms::cut_text;
+use pop3_wire::{Asked, Note, read_scan, read_uid};
+use run_memory::Key;
+use std::alloc::{AllocError, Global};
+use std::str;
+
+/// A message that is over the size limit.
+#[derive(Clone, Copy)]
+pub struct Large {
+    pub number: u32,
+    pub size: u64,
+    /// A digest of its id.
+    pub key: Key,
+}
+
+/// The rows of a listing: all of UIDL, and those of LIST with a size over the limit.
+#[derive(Drop)]
+pub struct Listed {
+    limit: u64,
+    asked: Option<Asked>,
+    uids: Vec<u8>,
+    sizes: Vec<(u32, u64)>,
+}
+
+/// The key of an id. No line of a fault has a NUL.
+fn key_of(uid: &[u8]) -> Key {
+    Key::new(account_id(str::from_utf8(uid).unwrap_or(""), 0, "too large").as_str())
+}
+
+impl Listed {
+    /// Nothing is listed yet.
+    pub fn new(alloc: Global, limit: u64) -> Listed {
+        Listed {
+            limit,
+            asked: None,
+            uids: Vec::new(alloc),
+            sizes: Vec::new(alloc),
+        }
+    }
+
+    /// Takes a row of a listing.
+    fn add(&mut self, row: &[u8]) -> Result<(), AllocError> {
+        match self.asked {
+            Some(Asked::Uidl) => self.uids.extend_from_slice(row),
+            Some(Asked::List) => {
+                if let Ok((number, size)) = read_scan(row.trim_ascii_end()) {
+                    if size > self.limit {
+                        self.sizes.push((number, size))?;
+                    }
+                }
+                Ok(())
+            }
+            _ => Ok(()),
+        }
+    }
+
+    /// Takes note of a part of the conversation. A row that there is no memory for isn't known.
+    pub fn note(&mut self, part: Note<'_>) {
+        match part {
+            Note::Command(asked, _) => self.asked = asked,
+            Note::Body { text, .. } => {
+                let _ = self.add(text);
+            }
+            _ => {}
+        }
+    }
+
+    /// The size of a message, if it is over the limit.
+    fn size_of(&self, number: u32) -> Option<u64> {
+        let (_, size) = self.sizes.iter().find(|(listed, _)| *listed == number)?;
+        Some(*size)
+    }
+
+    /// The messages among these numbers, which rise, that are over the limit.
+    pub fn among(&self, alloc: Global, numbers: &[u32]) -> Result<Vec<Large>, AllocError> {
+        let mut found = Vec::new(alloc);
+        let mut rest = self.uids.as_slice();
+        while !rest.is_empty() {
+            let (row, behind) = cut_text(rest);
+            rest = behind;
+            let Ok((number, uid)) = read_uid(row.trim_ascii_end()) else {
+                continue;
+            };
+            if numbers.binary_search(&number).is_err() {
+                continue;
+            }
+            if let Some(size) = self.size_of(number) {
+                let key = key_of(uid);
+                found.push(Large { number, size, key })?;
+            }
+        }
+        Ok(found)
+    }
+}
