@@ -9,7 +9,13 @@ import subprocess
 from harness import programs
 
 # What the line of progress says.
-TEXT = re.compile(rb"message (\d+) of (\d+), (\d+) octets")
+TEXT = re.compile(rb"message (\d+) of (\d+)(?:, (\d+(?:\.\d)?) of (\d+(?:\.\d)?) ([kM])B)?")
+
+
+def told_in(found):
+    """The message, the total, how many octets have come and the size, as its words have them; 0 for what isn't told."""
+    unit = {None: 0, b"k": 1_000, b"M": 1_000_000}[found[5]]
+    return int(found[1]), int(found[2]), *(round(float(part or 0) * unit) for part in found.group(3, 4))
 
 
 def screen_of(octets):

@@ -10,12 +10,13 @@ import unittest
 from getmail import terminal
 from getmail.account import Account
 from getmail.server import Server, lines_of
-from getmail.terminal import TEXT, screen_of
+from getmail.terminal import TEXT, screen_of, told_in
 from harness import programs
 
 THREE = [(b"a", b"one\n"), (b"b", b"a line of a longer message\n" * 20_000), (b"c", b"three\n")]
 STEP = 65_536
 WIDTH = 48
+KILOBYTE = 1_000
 
 
 class Progress(unittest.TestCase):
@@ -33,24 +34,34 @@ class Progress(unittest.TestCase):
         return answer
 
     def told(self, shown):
-        """The message, the total and the octets of each line that was shown, in order."""
+        """The message, the total, the octets and the size of each line that was shown, in order."""
         rows = [row.rstrip() for row in shown.split(b"\r")]
         self.assertTrue(all(len(row) <= WIDTH for row in rows), rows)
         self.assertEqual([row for row in rows if row and not TEXT.fullmatch(row)], [])
-        return [tuple(int(number) for number in TEXT.fullmatch(row).groups()) for row in rows if row]
+        return [told_in(TEXT.fullmatch(row)) for row in rows if row]
 
     def test_the_line_follows_the_messages_and_is_gone(self):
         status, out, shown = self.run_on_terminal()
         self.assertEqual((status, screen_of(shown)), (0, [b""]))
         told = self.told(shown)
-        self.assertEqual({total for _, total, _ in told}, {3})
-        self.assertEqual([number for number, _, octets in told if octets == 0], [1, 2, 3])
+        self.assertEqual({total for _, total, _, _ in told}, {3})
+        self.assertEqual([number for number, _, octets, _ in told if octets == 0], [1, 2, 3])
         self.assertEqual(sorted(told), told)
-        octets = [octets for number, _, octets in told if number == 2]
-        length = len(b"+OK\r\n" + lines_of(THREE[1][1]))
-        self.assertTrue(all(later - earlier >= STEP for earlier, later in zip(octets, octets[1:])), octets)
+        octets = [octets for number, _, octets, _ in told if number == 2]
+        length = len(lines_of(THREE[1][1]))
+        self.assertEqual({size for number, _, _, size in told if number == 2}, {length // KILOBYTE * KILOBYTE})
+        self.assertTrue(all(later - earlier > STEP - KILOBYTE for earlier, later in zip(octets, octets[1:])), octets)
         self.assertTrue(length - 2 * STEP <= octets[-1] <= length, octets)
         self.assertTrue(out.endswith(b"3 messages (540010 bytes) retrieved, 0 skipped, 0 deleted\n"), out)
+
+    def test_the_units(self):
+        """From a million octets on a size is in megabytes."""
+        for length, words in ((2, b"0.0 of 0.0 kB"), (9_999, b"0.0 of 9.9 kB"), (10_000, b"0.0 of 10 kB"),
+                              (999_999, b"0.0 of 999 kB"), (1_000_000, b"0.0 of 1.0 MB"), (12_345_678, b"0.0 of 12 MB")):
+            with self.subTest(length):
+                self.server.messages = [(b"%d" % length, b"x" * (length - 2) + b"\n")]
+                _, _, shown = self.run_on_terminal()
+                self.assertTrue(shown.startswith(b"\rmessage 1 of 1, %s  " % words), shown[:60])
 
     def test_the_report_stands_alone_on_the_terminal(self):
         status, _, shown = self.run_on_terminal(both=True)
@@ -75,7 +86,7 @@ class Progress(unittest.TestCase):
         self.server.pause = 0.0002
         self.server.messages = [(b"%d" % number, b"") for number in range(10, 22)]
         _, _, shown = self.run_on_terminal()
-        self.assertEqual([(number, total) for number, total, octets in self.told(shown) if octets == 0],
+        self.assertEqual([(number, total) for number, total, octets, _ in self.told(shown) if octets == 0],
                          [(number, 12) for number in range(1, 13)])
 
     def test_nothing_is_shown_where_nothing_is_to_be_told(self):

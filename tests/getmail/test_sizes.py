@@ -136,7 +136,7 @@ class GreatProgress(unittest.TestCase):
             status, _, shown = terminal.run(account, LD_PRELOAD=str(skipping))
             thread.join(programs.SECONDS)
         self.assertEqual((status, terminal.screen_of(shown)), (0, [b""]))
-        told = [tuple(int(number) for number in found.groups()) for found in terminal.TEXT.finditer(shown)]
-        self.assertEqual([number for number, _, octets in told if octets == 0], list(range(1, count + 1)))
-        self.assertEqual({total for _, total, _ in told}, {count})
+        told = [terminal.told_in(found) for found in terminal.TEXT.finditer(shown)]
+        self.assertEqual(list(dict.fromkeys(number for number, _, octets, _ in told if octets == 0)), list(range(1, count + 1)))
+        self.assertEqual({total for _, total, _, _ in told}, {count})
         self.assertGreater(max(len(found[0]) for found in terminal.TEXT.finditer(shown)), 34)

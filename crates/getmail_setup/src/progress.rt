@@ -1,8 +1,8 @@
 //! The line of progress, which a terminal shows while messages come.
-ghost use Rattle.std.specs.{Prelude.{◌≡◌, IfOk}, String.string_bytes};
-ghost use Rattle.getmail_setup.specs.Progress.{progress_text};
+ghost use Rattle.std.specs.{Prelude.{◌≡◌, ◌<◌, IfOk}, String.string_bytes};
+ghost use Rattle.getmail_setup.specs.Progress.{in_tenths, part_in, part_text, progress_text};
 
-use pop3_wire::{Asked, Note};
+use pop3_wire::{Asked, Note, read_scan};
 use std::alloc::{AllocError, Global};
 
 /// How many octets of a message come before the line is shown again.
@@ -11,25 +11,95 @@ const STEP: u64 = 65_536;
 /// How many rows of listings come before it is; a listing with fewer messages isn't shown.
 const ROWS: u32 = 1_000;
 
+/// From how many octets on a size is in megabytes.
+const MEGABYTE: u64 = 1_000_000;
+
 /// How far a fetch is, as commands and replies show it.
-#[derive(Clone, Copy)]
+#[derive(Drop)]
 pub struct Progress {
     total: u32,
     rows: u32,
+    /// The sizes of the first messages, as LIST had them.
+    sizes: Vec<u64>,
+    /// The size of the message that comes; 0 if it isn't known.
+    size: u64,
     octets: u64,
     due: u64,
     asked: Option<Asked>,
 }
 
+/// A number of tenths: with a digit after the point below ten.
+fn in_tenths(alloc: Global, tenths: u64) -> Result<String, AllocError>
+    ensures { IfOk result (λ text. string_bytes text ≡ in_tenths tenths) }
+{
+    let (whole, rest) = (tenths / 10, tenths % 10);
+    if tenths < 100 {
+        format!(in alloc; "{whole}.{rest}")
+    } else {
+        format!(in alloc; "{whole}")
+    }
+}
+
+/// How much of a size has come, in a unit with tenths of so many octets.
+fn part_in(
+    alloc: Global,
+    tenth: u64,
+    unit: &str,
+    octets: u64,
+    size: u64,
+) -> Result<String, AllocError>
+    requires { 0 < tenth }
+    ensures { IfOk result (λ text. string_bytes text ≡ part_in tenth unit.now octets size) }
+{
+    let part = in_tenths(alloc, octets.min(size) / tenth)?;
+    let whole = in_tenths(alloc, size / tenth)?;
+    format!(in alloc; ", {part} of {whole}{unit}")
+}
+
+/// How much of a size has come, if that is known.
+fn part_text(alloc: Global, octets: u64, size: u64) -> Result<String, AllocError>
+    ensures { IfOk result (λ text. string_bytes text ≡ part_text octets size) }
+{
+    if size == 0 {
+        return Ok(String::new(alloc));
+    }
+    if size < MEGABYTE {
+        return part_in(alloc, 100, " kB", octets, size);
+    }
+    part_in(alloc, 100_000, " MB", octets, size)
+}
+
 impl Progress {
     /// Nothing is known yet.
-    pub fn new() -> Progress {
+    pub fn new(alloc: Global) -> Progress {
         Progress {
             total: 0,
             rows: 0,
+            sizes: Vec::new(alloc),
+            size: 0,
             octets: 0,
             due: 0,
             asked: None,
+        }
+    }
+
+    /// Takes a row of LIST. Rows come in order; where one doesn't, or there is no memory, no more sizes are known.
+    fn add_size(&mut self, row: &[u8]) {
+        if let Ok((number, size)) = read_scan(row.trim_ascii_end()) {
+            if self.sizes.len() as u64 + 1 == u64::from(number) {
+                let _ = self.sizes.push(size);
+            }
+        }
+    }
+
+    /// The size of the message that is asked for; 0 if it isn't known.
+    fn size_for(&self, asked: Option<Asked>) -> u64 {
+        match asked {
+            Some(Asked::Retr(number)) if number > 0 => {
+                let place = (number - 1) as usize;
+                self.sizes.get(place).copied().unwrap_or(0)
+            }
+            _ => 0,
         }
     }
 
@@ -37,15 +107,19 @@ impl Progress {
     pub fn note(&mut self, part: Note<'_>) {
         match part {
             Note::Command(asked, _) => {
+                self.size = self.size_for(asked);
                 self.asked = asked;
                 self.octets = 0;
                 self.due = 0;
             }
             Note::Count(total) => self.total = total,
-            Note::Body { octets, .. } => {
+            Note::Body { text, octets, .. } => {
                 self.octets = self.octets.saturating_add(octets as u64);
                 if let Some(Asked::Uidl | Asked::List) = self.asked {
                     self.rows = self.rows.saturating_add(1);
+                }
+                if let Some(Asked::List) = self.asked {
+                    self.add_size(text);
                 }
             }
             Note::Reply(_) | Note::Refused => {}
@@ -74,17 +148,12 @@ impl Progress {
     pub fn text(&self, alloc: Global) -> Result<String, AllocError>
         ensures { IfOk result (λ text. string_bytes text ≡ progress_text self.now) }
     {
-        let Progress {
-            total,
-            rows,
-            octets,
-            asked,
-            ..
-        } = *self;
-        if let Some(Asked::Retr(number)) = asked {
-            return format!(in alloc; "message {number} of {total}, {octets} octets");
+        let total = self.total;
+        if let Some(Asked::Retr(number)) = self.asked {
+            let part = part_text(alloc, self.octets, self.size)?;
+            return format!(in alloc; "message {number} of {total}{part}");
         }
-        let listed = rows / 2;
+        let listed = self.rows / 2;
         format!(in alloc; "listed {listed} of {total} messages")
     }
 }

@@ -36,7 +36,7 @@ impl<W: Wire, S: Write> ShownWire<W, S> {
             wire,
             screen,
             alloc,
-            progress: Progress::new(),
+            progress: Progress::new(alloc),
             is_shown: false,
             listed: None,
         }
