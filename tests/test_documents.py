@@ -6,8 +6,8 @@ top or in any crate; `make WORD` is a target that the Makefile names after .PHON
 a definition, a test or a man page uses. Names in capitals stand for something else (`FILE`), and those in OTHERS aren't
 names of this repository.
 
-And docs/DEFINITIONS.md gives each word the file that defines it, the man page lists the line of each fault of getmail, and the
-README names the kit that the sources are proved with.
+And docs/DEFINITIONS.md gives each word the file that defines it, the man page lists the line of each fault of getmail, its
+table of what to do has each of those with status 1, and the README names the kit that the sources are proved with.
 """
 
 import re
@@ -109,6 +109,22 @@ def told_without_help():
                 yield f"man/getmail.1 doesn't list '{line}' of {source}"
 
 
+def faults_without_advice():
+    """Each error of status 1 in the man page that its table of what to do doesn't have, and each row of that table that is
+    none of them."""
+    manual = (TOP / "man" / "getmail.1").read_text()
+    errors = manual[manual.index(".Ss After that, with status 1"):manual.index(".Sh SEE ALSO")]
+    listed = [line.removesuffix(" X") for line in re.findall(r"^\.It (.+)$", errors, re.MULTILINE)]
+    table = re.search(r"^LATER .*?(?=^\.Ed$)", manual, re.MULTILINE | re.DOTALL)[0]
+    advised = {entry.split(" ...")[0] for row in table.splitlines() for entry in row[9:].split(", ") if entry}
+    for error in listed:
+        if not any(error.startswith(entry) for entry in advised):
+            yield f"man/getmail.1 doesn't say what to do about '{error}'"
+    for entry in advised:
+        if not any(error.startswith(entry) or entry.startswith(f"{error} ") for error in listed):
+            yield f"man/getmail.1 says what to do about '{entry}', which is no error of status 1"
+
+
 def other_kits():
     """A line if the README names another kit than docs/AXIOMS.txt, which the sources are proved with."""
     kits = [set(re.findall(r"rattle-kit-\w+", (TOP / name).read_text())) for name in ("README.md", "docs/AXIOMS.txt")]
@@ -121,7 +137,7 @@ def main():
     words = words_of(paths)
     targets = set(" ".join(re.findall(r"^\.PHONY: (.*)", (TOP / "Makefile").read_text(), re.MULTILINE)).split())
     faults = [fault for document in DOCUMENTS for fault in faults_in(document, paths, words, targets)]
-    faults += [*undefined_words(), *told_without_help(), *other_kits()]
+    faults += [*undefined_words(), *told_without_help(), *faults_without_advice(), *other_kits()]
     for fault in faults:
         print(fault)
     if not faults:
