@@ -16,7 +16,7 @@ type = SimplePOP3Retriever
 server = {server}
 port = {port}
 username = u
-password = p
+password = sesame
 
 [destination]
 type = Maildir

@@ -8,7 +8,7 @@ from getmail.server import Server
 from harness import programs
 
 THREE = [(b"a", b"one\n"), (b"b", b"two\n"), (b"c", b"three\n")]
-LOGIN = ["USER u", "PASS p", "STAT", "UIDL", "LIST"]
+LOGIN = ["USER u", "PASS sesame", "STAT", "UIDL", "LIST"]
 
 REFUSED = programs.Run(1, b"", b"getmail: destination refused\n")
 RECORD_REFUSED = programs.Run(1, b"", b"getmail: seen file refused\n")

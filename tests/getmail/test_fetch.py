@@ -81,7 +81,7 @@ class Sessions(Fetching):
 
     def test_the_password_is_told_nowhere(self):
         secret = "Tr0ub4dor"
-        written = self.account.rcfile.read_text().replace("password = p", f"password = {secret}")
+        written = self.account.rcfile.read_text().replace("password = sesame", f"password = {secret}")
         told = []
         for change in (("", ""), ("read_all = false", "read_all = false\nshow = all"), ("Maildir/", "Maildir"),
                        ("username = u", "use_apop = yes\nusername = u"), ("[retriever]", "[retriever]\nx")):
@@ -145,10 +145,10 @@ class Sessions(Fetching):
             self.assertEqual(stat.S_IMODE(path.stat().st_mode), 0o600, path)
 
     def test_a_refused_password_stores_nothing(self):
-        self.server.refuses = ("PASS p",)
+        self.server.refuses = ("PASS sesame",)
         run = self.session()
         self.assertEqual((run.status, run.err), (1, b"getmail: server refused PASS\n"))
-        self.assertEqual(self.server.commands, ["USER u", "PASS p", "QUIT"])
+        self.assertEqual(self.server.commands, ["USER u", "PASS sesame", "QUIT"])
         self.check_held([])
 
     def test_a_refused_message_blocks_those_behind_it(self):

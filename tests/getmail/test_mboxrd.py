@@ -15,7 +15,7 @@ from harness.mboxrd import entries, entry
 
 THREE = [(b"a", b"one\n"), (b"b", b"two\n"), (b"c", b"three\n")]
 TEXTS = [text for _, text in THREE]
-LOGIN = ["USER u", "PASS p", "STAT", "UIDL", "LIST"]
+LOGIN = ["USER u", "PASS sesame", "STAT", "UIDL", "LIST"]
 RETRS = ["RETR 1", "RETR 2", "RETR 3"]
 TAIL = ["RSET", "QUIT"]
 REPORT = ("SimplePOP3Retriever:u@{server}:{port}:\n"

@@ -21,7 +21,7 @@ from harness.mboxrd import entries
 THREE = [(b"a", b"one\n"), (b"b", b"two\nFrom x\n"), (b"c", b"three\n")]
 # The second entry crosses borders of the file's blocks.
 LONG = [(b"a", b"one\n"), (b"b", b"From me\n" + b"a line of the text\n" * 600), (b"c", b"three\n")]
-LOGIN = ["USER u", "PASS p", "STAT", "UIDL", "LIST"]
+LOGIN = ["USER u", "PASS sesame", "STAT", "UIDL", "LIST"]
 FAULTS = [b"getmail: %b\n" % line for line in (
     b"connection ended by the server", b"reading from the server failed", b"writing to the server failed",
     b"destination missing", b"destination refused", b"seen file refused", b"out of memory")]

@@ -17,7 +17,7 @@ from harness import dovecot, kernel, preload, programs
 
 MESSAGES = [(b"a", b"one\n"), (b"b", b""), (b"c", b"Subject: three\n\n.three\nFrom x\n"), (b"d/5", b"x" * 70_000 + b"\n"),
             (b"~" * 70, b"\n" * 300)]
-LOGIN = ["USER u", "PASS p", "STAT", "UIDL", "LIST"]
+LOGIN = ["USER u", "PASS sesame", "STAT", "UIDL", "LIST"]
 FLAGS = ("", ":2,", ":2,S", ":2,FRS", ":1,x")
 
 

@@ -134,7 +134,7 @@ class Together(unittest.TestCase):
 
     def test_a_wrong_password(self):
         self.add(TEXTS)
-        self.account.rcfile.write_text(self.account.rcfile.read_text().replace("password = p", "password = secret"))
+        self.account.rcfile.write_text(self.account.rcfile.read_text().replace("password = sesame", "password = secret"))
         run = self.account.run("-v")
         self.assertEqual((run.status, run.err), (1, b"getmail: server refused PASS\n"))
         self.assertNotIn(b"secret", run.out)

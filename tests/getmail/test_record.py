@@ -11,7 +11,7 @@ from harness.kernel import LOOPBACK
 from probe import grammar, record_files
 
 THREE = [(b"a", b"one\n"), (b"b", b"two\n"), (b"c", b"three\n")]
-LOGIN = ["USER u", "PASS p", "STAT", "UIDL", "LIST"]
+LOGIN = ["USER u", "PASS sesame", "STAT", "UIDL", "LIST"]
 ALL = [(b"a", b"1"), (b"b", b"1"), (b"c", b"1")]
 ONE, TWO = b"getmail-seen 1\n", b"getmail-seen 2\n"
 RANDOM_FILES = 200

@@ -14,7 +14,7 @@ from getmail.server import Server
 from harness import preload, programs
 
 THREE = [(b"a", b"one\n" * 200), (b"b", b"two\n" * 4000), (b"c", b"three\n" * 200)]
-LOGIN = ["USER u", "PASS p", "STAT", "UIDL", "LIST"]
+LOGIN = ["USER u", "PASS sesame", "STAT", "UIDL", "LIST"]
 
 REFUSED = b"getmail: destination refused\n"
 MISSING = b"getmail: destination missing\n"

@@ -17,7 +17,7 @@ from getmail.server import Server
 from harness import preload, programs
 from harness.kernel import LOOPBACK
 
-LOGIN = ["USER u", "PASS p", "STAT", "UIDL", "LIST"]
+LOGIN = ["USER u", "PASS sesame", "STAT", "UIDL", "LIST"]
 SEEDS = 150
 
 

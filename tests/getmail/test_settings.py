@@ -14,7 +14,7 @@ from harness import preload, programs
 from harness.kernel import LOOPBACK
 
 THREE = [(b"a", b"one\n"), (b"b", b"two\n" * 50), (b"c", b"three\n")]
-LOGIN = ["USER u", "PASS p", "STAT", "UIDL", "LIST"]
+LOGIN = ["USER u", "PASS sesame", "STAT", "UIDL", "LIST"]
 ALL_FETCHED = ["RETR 1", "RETR 2", "RETR 3"]
 ALL_DELETED = ["DELE 1", "DELE 2", "DELE 3"]
 FETCHED_AND_DELETED = ["RETR 1", "DELE 1", "RETR 2", "DELE 2", "RETR 3", "DELE 3"]
@@ -221,7 +221,7 @@ class RcFile(Sessions):
         """With the user's own server and password it fetches once what is new, and deletes nothing."""
         text = (programs.ROOT / "docs/getmailrc.sample").read_text()
         for old, new in (("server = /home/fred/.getmail/tunnel/pop3s\n# port = 110", f"server = {LOOPBACK}\nport = {self.server.port}"),
-                         ("username = fred\npassword = secret", "username = u\npassword = p")):
+                         ("username = fred\npassword = secret", "username = u\npassword = sesame")):
             self.assertIn(old, text)
             text = text.replace(old, new)
         self.account.rcfile.write_text(text)

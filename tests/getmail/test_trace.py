@@ -125,7 +125,7 @@ class Session(unittest.TestCase):
         """A command that the server doesn't know, repeated with its words."""
         password = "s3cret words"
         rc = self.account.rcfile
-        rc.write_text(rc.read_text().replace("password = p", f"password = {password}"))
+        rc.write_text(rc.read_text().replace("password = sesame", f"password = {password}"))
         answer = self.server._answer
         for said in (f"-ERR unknown command: PASS {password}", f"+OK {password}", f"-ERR {'x' * 505}{password}"):
             self.server._answer = lambda command: (said.encode() + b"\r\n" if command.startswith(b"PASS")

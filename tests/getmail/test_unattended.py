@@ -116,7 +116,7 @@ class Unattended(unittest.TestCase):
     def test_it_says_what_a_quiet_run_with_reasons_says(self):
         """At first sight, and nothing else, on a terminal too and whatever `verbose` is in the rc file."""
         loud = "received = true\nverbose = 2\n"
-        for options, *refused in (loud,), ("", "UIDL"), (loud, "PASS p"), (loud, "RETR 1"):
+        for options, *refused in (loud,), ("", "UIDL"), (loud, "PASS sesame"), (loud, "RETR 1"):
             with self.subTest(options=options, refused=refused):
                 self.refuse(*refused)
                 runs = set()
@@ -256,7 +256,7 @@ class Unattended(unittest.TestCase):
 
     def test_its_file(self):
         """Nobody else may read it, and it has neither the password nor the server's words."""
-        self.account.rcfile.write_bytes(self.account.rcfile.read_bytes().replace(b"password = p\n", b"password = secret-words\n"))
+        self.account.rcfile.write_bytes(self.account.rcfile.read_bytes().replace(b"password = sesame\n", b"password = secret-words\n"))
         self.server._answer = lambda command: b"-ERR no such secret-words here\r\n"
         self.session()
         path, = self.told()

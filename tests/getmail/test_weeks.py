@@ -108,7 +108,7 @@ class Weeks(unittest.TestCase):
         self.check(box, box.said_by_a_good_run(), is_kept=is_kept)
 
     def refused(self, box, word, is_kept=True):
-        box.server.refuses = {"USER": f"USER {box.name}", "PASS": "PASS p"}.get(word, word),
+        box.server.refuses = {"USER": f"USER {box.name}", "PASS": "PASS sesame"}.get(word, word),
         line, *reasons = FAULTS[word]
         self.check(box, Said(fault=(f"getmail: {line}", *map(box.line, reasons))), is_kept=is_kept)
         box.server.refuses = ()

@@ -66,7 +66,7 @@ class OfMaildirs(Sessions):
     def test_what_the_server_said(self):
         self.server.refuses = ("RETR 2",)
         self.check_told("server refused RETR 2", "the server said: -ERR refused")
-        self.server.refuses = ("PASS p",)
+        self.server.refuses = ("PASS sesame",)
         self.check_told("server refused PASS", "the server said: -ERR refused", hint=PASSWORD)
 
     def test_a_folder_that_is_missing(self):
@@ -201,10 +201,10 @@ class BeforeSessions(unittest.TestCase):
         path = "a Maildir's path ends in / and an mboxrd file's doesn't; it is one line with no $, and ~ only as ~/ in front"
         for old, new, fault, told in (
                 (b"port = 1", b"port = 0x1 # plain", "retriever.port has a bad value", f"line 4: port: {number}"),
-                (b"password = p", b"password = " + b"q" * 501, "retriever.password has a bad value",
+                (b"password = sesame", b"password = " + b"q" * 501, "retriever.password has a bad value",
                  "line 6: password: one line of 1 to 500 octets, with no CR and no NUL"),
                 (b"path = ~/Maildir/", b"path = ~/Mail\x1bdir", "destination.path has a bad form", f"line 10: path: {path}"),
-                (b"password = p\n", b"password = p\nport = 110\nport = 7x\n", "retriever.port has a bad value",
+                (b"password = sesame\n", b"password = sesame\nport = 110\nport = 7x\n", "retriever.port has a bad value",
                  f"line 8: port: {number}"),
                 (b"port = 1", b"port = 1\nport = 0\nport = 110\nPORT : 0x", "retriever.port has a bad value",
                  f"line 7: port: {number}"),
@@ -242,11 +242,11 @@ class BeforeSessions(unittest.TestCase):
 
     def test_no_line_of_a_password_is_shown(self):
         self.put(b"port = 1", b"port = 0")
-        self.put(b"password = p\n", b"password = p\n  port = hidden\n\tport = hidden\n")
+        self.put(b"password = sesame\n", b"password = sesame\n  port = hidden\n\tport = hidden\n")
         self.check_told(2, "retriever.port has a bad value", "line 4: port: 1 to 65535; a comment has a line of its own")
 
     def test_lines_of_an_rc_file(self):
-        self.put(b"password = p", b"password p")
+        self.put(b"password = sesame", b"password p")
         self.check_told(2, "rc file line 6 not understood", "a line is empty, a comment, a [section], or KEY = VALUE in one; "
                         "after a blank a value goes on")
         self.account.rcfile.write_bytes(b"\xef\xbb\xbf[retriever]\n")
@@ -386,8 +386,8 @@ class Table(unittest.TestCase):
 
     def test_a_row_that_tells_of_the_password(self):
         """It is hidden like an answer."""
-        self.answers["UIDL"] = b"+OK\r\n1 a\r\nthe password is p\r\n"
-        self.check_told("listing not understood", "the reply to UIDL has the row: *")
+        self.answers["UIDL"] = b"+OK\r\n1 a\r\nthe password is sesame\r\n"
+        self.check_told("listing not understood", "the reply to UIDL has the row: the password is *")
 
     def test_a_record_that_is_not_understood(self):
         self.account.record.write_bytes(b"getmail-seen 2\nx\n")

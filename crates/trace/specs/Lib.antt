@@ -1,3 +1,5 @@
 pub mod Command
 pub mod Masking
+pub mod Shown
+pub mod Ways
 pub mod Wire

@@ -7,7 +7,7 @@ use Rattle.std.specs.{
 use Rattle.pop3_wire.specs.declared.note.Note.{Note, TheVariants.{Command, Reply, Refused, Count, Body}}
 use Rattle.trace.specs.{
   Command.{most_shown, shown_command},
-  Masking.{IsShown, is_login},
+  Shown.{ComesAfter, IsShown},
   declared.wire.{Trace.Trace, TracedWire.TracedWire},
 }
 use Rattle.system_calls.specs.Line.{HasTraceLine}
@@ -20,7 +20,7 @@ AddsTraceLine contents old new mark octets = ⊥
 
 -- the password that a trace hides
 abbrev pub hidden_in : {E : Type 0} → Trace E → Option (List ℕ)
-hidden_in trace = option_map (λ password. password.items) trace.password
+hidden_in trace = option_map (λ password. password.items) trace.mask.password
 
 -- a link hides this password, if anything of it is shown or kept
 abbrev pub Hides : {W E : Type 0} → TracedWire W E → List ℕ → Type 0
@@ -34,7 +34,7 @@ Counts old text octets new = (new.lines ≡ min (old.lines + count_by (λ octet.
 -- the first line of an answer was shown, in which the password is hidden; nothing of a body came yet
 abbrev pub ShowsAnswer : {E : Type 0} → (E → Option (List ℕ)) → Trace E → List ℕ → Trace E → Type 0
 ShowsAnswer contents old answer new =
-    (shown : List ℕ) × IsShown (hidden_in old) old.to_login answer shown
+    (shown : List ℕ) × IsShown (hidden_in old) old.mask.moment answer shown
     × AddsTraceLine contents old.err new.err (codes "S: ") (take most_shown shown)
     × (new.lines ≡ 0) × (new.octets ≡ 0)
 
@@ -45,7 +45,7 @@ count_text lines octets = codes "(" ++ (decimal lines ++ (codes " lines, " ++ (d
 -- a part of a conversation was shown: of a body, how many lines and octets came, at its end
 abbrev pub ShowsPart : {E : Type 0} → (E → Option (List ℕ)) → Trace E → Note → Trace E → Type 0
 ShowsPart contents old (Command asked command) new =
-    (new.to_login ≡ is_login command.now)
+    ComesAfter old.mask.moment command.now new.mask.moment
     × AddsTraceLine contents old.err new.err (codes "C: ") (take most_shown (shown_command command.now))
 ShowsPart contents old (Reply answer) new = ShowsAnswer contents old answer.now new
 ShowsPart contents old Refused new = new ≡ record old { talk = new.talk }

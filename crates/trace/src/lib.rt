@@ -4,6 +4,7 @@
 mod command;
 mod masking;
 mod talk;
+mod ways;
 mod wire;
 
 pub use command::commands_hide_passwords;

@@ -1,12 +1,13 @@
 //! What is shown of an answer that tells of the password.
-ghost use Rattle.std.specs.Prelude.{◌≡◌, ◌≤◌, ◌<◌, ◌⊎◌, ◌+◌, ◌++◌, ◌↔◌, IfOk, OnOk, IsTrue, length, option_map, take};
+ghost use Rattle.std.specs.Prelude.{◌≡◌, ◌≤◌, ◌⊎◌, ◌+◌, ◌↔◌, IfOk, IsTrue, false, length, option_map, take};
 ghost use Rattle.trace.specs.{
   Command.most_shown,
-  Masking.{IsShown, Occurs, OccursInBase64, Tells, TellsARow, hidden_answer, is_login, octet_at, password_row, sextet},
-  Masking.{row_length, symbol, symbol_at, symbols},
+  Masking.{Occurs, OccursInBase64, TellsARow, hidden_answer, is_login, password_row, row_length},
+  Shown.{ComesAfter, IsMasked, IsShown, IsWithheld},
 };
 
 use crate::command::{cut, is_word};
+use crate::ways::{alone_first, alone_second, alone_third, masked};
 use memchr::memmem;
 use std::alloc::{AllocError, Global};
 
@@ -20,70 +21,6 @@ pub fn is_login(command: &[u8]) -> bool
     is_word(command, b"USER") || is_word(command, b"PASS")
 }
 
-/// The base64 character of a number.
-fn symbol(number: u8) -> u8
-    requires { number < 64 }
-    ensures { result ≡ symbol number }
-{
-    if number < 26 {
-        b'A' + number
-    } else if number < 52 {
-        71 + number
-    } else if number < 62 {
-        number - 4
-    } else if number == 62 {
-        b'+'
-    } else {
-        b'/'
-    }
-}
-
-fn octet_at(octets: &[u8], place: usize) -> u16
-    ensures value { result ≡ octet_at octets.now place }
-    ensures below { result < 256 }
-{
-    match octets.get(place) {
-        Some(octet) => u16::from(*octet),
-        None => 0,
-    }
-}
-
-/// Six bits, from this one on.
-fn sextet(octets: &[u8], bit: usize) -> u8
-    requires { bit < 64 }
-    ensures value { result ≡ sextet octets.now bit }
-    ensures below { result < 64 }
-{
-    let pair = octet_at(octets, bit / 8) * 256 + octet_at(octets, bit / 8 + 1);
-    ((pair >> (10 - bit % 8)) % 64) as u8
-}
-
-/// Appends the character of six bits that are all within the octets.
-#[tactic(auto, unfolding(crate::specs::Masking::symbol_at))]
-fn put_symbol(text: &mut Vec<u8>, octets: &[u8], bit: usize) -> Result<(), AllocError>
-    requires { bit < 64 }
-    ensures { OnOk result (text.new.items ≡ text.old.items ++ symbol_at octets.now bit) }
-{
-    if (bit + 5) / 8 < octets.len() {
-        text.push(symbol(sextet(octets, bit)))?;
-    }
-    Ok(())
-}
-
-/// The characters of at most four octets that are made of them alone, if the first such one begins at this bit.
-fn symbols(alloc: Global, octets: &[u8], first: usize) -> Result<Vec<u8>, AllocError>
-    requires { first < 8 }
-    ensures { IfOk result (λ text. text.items ≡ symbols octets.now first) }
-{
-    let mut text = Vec::new(alloc);
-    put_symbol(&mut text, octets, first)?;
-    put_symbol(&mut text, octets, first + 6)?;
-    put_symbol(&mut text, octets, first + 12)?;
-    put_symbol(&mut text, octets, first + 18)?;
-    put_symbol(&mut text, octets, first + 24)?;
-    Ok(text)
-}
-
 fn occurs(answer: &[u8], octets: &[u8]) -> bool
     ensures { IsTrue result ↔ Occurs answer.now octets.now }
 {
@@ -93,19 +30,6 @@ fn occurs(answer: &[u8], octets: &[u8]) -> bool
     }
 }
 
-fn has_symbols(
-    alloc: Global,
-    answer: &[u8],
-    octets: &[u8],
-    first: usize,
-) -> Result<bool, AllocError>
-    requires { first < 8 }
-    ensures { IfOk result (λ has. IsTrue has ↔ Occurs answer.now (symbols octets.now first)) }
-{
-    let text = symbols(alloc, octets, first)?;
-    Ok(occurs(answer, text.as_slice()))
-}
-
 /// Whether octets occur in an answer in base64, after any number of other octets.
 fn occurs_in_base64(alloc: Global, answer: &[u8], octets: &[u8]) -> Result<bool, AllocError>
     ensures { IfOk result (λ does. IsTrue does ↔ OccursInBase64 answer.now octets.now) }
@@ -113,13 +37,16 @@ fn occurs_in_base64(alloc: Global, answer: &[u8], octets: &[u8]) -> Result<bool,
     if octets.len() < 2 {
         return Ok(false);
     }
-    if has_symbols(alloc, answer, octets, 0)? {
+    let first = alone_first(alloc, octets)?;
+    let second = alone_second(alloc, octets)?;
+    let third = alone_third(alloc, octets)?;
+    if occurs(answer, first.as_slice()) {
         return Ok(true);
     }
-    if has_symbols(alloc, answer, octets, 2)? {
+    if occurs(answer, second.as_slice()) {
         return Ok(true);
     }
-    has_symbols(alloc, answer, octets, 4)
+    Ok(occurs(answer, third.as_slice()))
 }
 
 /// Whether an answer, which is `said` in lower case, has a row of octets, which are `lower` in lower case.
@@ -160,14 +87,23 @@ fn tells_a_row(alloc: Global, answer: &[u8], password: &[u8]) -> Result<bool, Al
     Ok(false)
 }
 
-/// Whether an answer tells of the password.
-fn tells(alloc: Global, to_login: bool, answer: &[u8], password: &[u8]) -> Result<bool, AllocError>
-    ensures { IfOk result (λ tells. IsTrue tells ↔ Tells to_login answer.now password.now) }
+/// Whether nothing but the status of an answer is shown: the server may know a short password, or the answer tells a
+/// part of one that was typed.
+fn is_withheld(
+    alloc: Global,
+    moment: Moment,
+    answer: &[u8],
+    password: &[u8],
+) -> Result<bool, AllocError>
+    ensures { IfOk result (λ is. IsTrue is ↔ IsWithheld moment answer.now password.now) }
 {
-    match to_login {
-        true => tells_a_row(alloc, answer, password),
-        false => Ok(occurs(answer, password)),
+    if moment.has_sent && password.len() < ROW {
+        return Ok(true);
     }
+    if !moment.to_login {
+        return Ok(false);
+    }
+    tells_a_row(alloc, answer, password)
 }
 
 /// What is shown of an answer that tells of the password.
@@ -195,37 +131,88 @@ fn hidden_answer(answer: &[u8]) -> &'static [u8]
     }
 }
 
-/// The first line of an answer as it is shown: only here is one made, so no other is shown or kept.
-#[derive(Clone, Copy)]
-pub struct Shown<'a> {
-    octets: &'a [u8],
+/// An answer in which this password is hidden.
+fn hidden(
+    alloc: Global,
+    moment: Moment,
+    answer: &[u8],
+    password: &[u8],
+) -> Result<Vec<u8>, AllocError>
+    ensures { IfOk result (λ shown. IsMasked moment password.now answer.now shown.items) }
+{
+    if is_withheld(alloc, moment, answer, password)? {
+        return Vec::from_slice(alloc, hidden_answer(answer));
+    }
+    if password.len() < ROW {
+        return Vec::from_slice(alloc, answer);
+    }
+    masked(alloc, answer, password)
 }
 
-impl<'a> Shown<'a> {
-    /// An answer in which the password is hidden, if one is known.
-    pub fn new(
-        alloc: Global,
-        to_login: bool,
-        answer: &'a [u8],
-        password: Option<&[u8]>,
-    ) -> Result<Shown<'a>, AllocError>
-        ensures { IfOk result (λ shown. IsShown (option_map (λ p. p.now) password.entry) to_login answer.now
-            shown.octets.now) }
+/// Where in a conversation an answer comes.
+#[derive(Clone, Copy)]
+pub struct Moment {
+    /// Whether it is the answer to USER or PASS.
+    pub to_login: bool,
+    /// Whether the server has got a password.
+    pub has_sent: bool,
+}
+
+/// What hides the password in a conversation.
+#[derive(Drop)]
+pub struct Mask {
+    password: Option<Vec<u8>>,
+    moment: Moment,
+}
+
+impl Mask {
+    /// The password to hide, if one is known; nothing was said yet.
+    pub fn new(password: Option<Vec<u8>>) -> Mask
+        ensures { (result.password ≡ password) × (result.moment ≡ record { to_login = false; has_sent = false }) }
     {
-        if let Some(password) = password {
-            if tells(alloc, to_login, answer, password)? {
-                return Ok(Shown {
-                    octets: hidden_answer(answer),
-                });
-            }
+        Mask {
+            password,
+            moment: Moment {
+                to_login: false,
+                has_sent: false,
+            },
         }
-        Ok(Shown { octets: answer })
     }
 
-    /// The front of it that is shown.
-    pub fn front(self) -> &'a [u8]
-        ensures { result.now ≡ take most_shown self.entry.octets.now }
+    /// A command was sent.
+    pub fn pass(&mut self, command: &[u8])
+        ensures { ComesAfter self.old.moment command.now self.new.moment × (self.new.password ≡ self.old.password) }
     {
-        cut(self.octets)
+        self.moment = Moment {
+            to_login: is_login(command),
+            has_sent: self.moment.has_sent || is_word(command, b"PASS"),
+        };
+    }
+
+    /// What is shown of an answer or a row of one.
+    pub fn shown(&self, alloc: Global, answer: &[u8]) -> Result<Shown, AllocError>
+        ensures { IfOk result (λ shown. IsShown (option_map (λ secret. secret.items) self.now.password)
+            self.now.moment answer.now shown.octets.items) }
+    {
+        let octets = match &self.password {
+            None => Vec::from_slice(alloc, answer)?,
+            Some(password) => hidden(alloc, self.moment, answer, password)?,
+        };
+        Ok(Shown { octets })
+    }
+}
+
+/// An answer or a row of one as it is shown: only a mask makes one, so no other is shown or kept.
+#[derive(Drop)]
+pub struct Shown {
+    octets: Vec<u8>,
+}
+
+impl Shown {
+    /// The front of it that is shown.
+    pub fn front(&self) -> &[u8]
+        ensures { result.now ≡ take most_shown self.now.octets.items }
+    {
+        cut(&self.octets)
     }
 }

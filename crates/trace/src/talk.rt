@@ -71,7 +71,7 @@ impl Talk {
     }
 
     /// An answer came.
-    pub(crate) fn hear(&self, asked: Option<Asked>, answer: Shown<'_>) {
+    pub(crate) fn hear(&self, asked: Option<Asked>, answer: &Shown) {
         let mut said = self.take();
         said.answer = text_of(self.alloc, answer.front());
         if let Some(Asked::Stat) = asked {
@@ -81,7 +81,7 @@ impl Talk {
     }
 
     /// A row of a listing came.
-    pub(crate) fn list(&self, asked: Option<Asked>, row: Shown<'_>) {
+    pub(crate) fn list(&self, asked: Option<Asked>, row: &Shown) {
         let mut said = self.take();
         match asked {
             Some(Asked::Uidl) => said.uids = said.uids.saturating_add(1),

@@ -2,12 +2,12 @@
 ghost use Rattle.std.specs.Prelude.{◌≡◌, ◌-◌, ℕ, List, Some, IsSome, OnOk, codes, option_map, take};
 ghost use Rattle.trace.specs.{
   Command.{most_shown, shown_command},
-  Masking.is_login,
+  Shown.ComesAfter,
   Wire.{AddsTraceLine, Counts, Hides, ShowsAnswer, ShowsPart, count_text},
 };
 
 use crate::command::{cut, shown_command};
-use crate::masking::{Shown, is_login};
+use crate::masking::Mask;
 use crate::talk::Talk;
 use pop3_wire::{Asked, Note, Wire, WireDown};
 use std::alloc::Global;
@@ -24,12 +24,10 @@ struct Trace<'a, E> {
     alloc: Global,
     err: Option<E>,
     talk: Option<&'a Talk>,
-    /// The password, if answers are searched for it.
-    password: Option<Vec<u8>>,
+    /// What hides the password in answers.
+    mask: Mask,
     /// What the last command asked for, as the client told it.
     asked: Option<Asked>,
-    /// Whether it was USER or PASS.
-    to_login: bool,
     /// How much has come of the body under way.
     lines: u64,
     octets: u64,
@@ -48,13 +46,13 @@ impl<'a, E: Write> Trace<'a, E> {
 
     fn show_answer(&mut self, answer: &[u8]) -> io::Result<()>
         ensures shown { OnOk result (ShowsAnswer E.contents self.old answer.now self.new) }
-        ensures same { self.new.password ≡ self.old.password }
+        ensures same { self.new.mask.password ≡ self.old.mask.password }
     {
         self.lines = 0;
         self.octets = 0;
-        let answer = Shown::new(self.alloc, self.to_login, answer, self.password.as_deref())?;
+        let answer = self.mask.shown(self.alloc, answer)?;
         if let Some(talk) = self.talk {
-            talk.hear(self.asked, answer);
+            talk.hear(self.asked, &answer);
         }
         self.show("S: ", answer.front())
     }
@@ -88,10 +86,8 @@ impl<'a, E: Write> Trace<'a, E> {
     fn keep_row(&self, text: &[u8]) -> io::Result<()> {
         if let Some(talk) = self.talk {
             if let Some(Asked::Uidl | Asked::List) = self.asked {
-                talk.list(
-                    self.asked,
-                    Shown::new(self.alloc, false, text, self.password.as_deref())?,
-                );
+                let row = self.mask.shown(self.alloc, text)?;
+                talk.list(self.asked, &row);
             }
         }
         Ok(())
@@ -99,13 +95,13 @@ impl<'a, E: Write> Trace<'a, E> {
 
     /// Shows a command.
     fn show_command(&mut self, asked: Option<Asked>, command: &[u8]) -> io::Result<()>
-        ensures shown { OnOk result ((self.new.to_login ≡ is_login command.now)
+        ensures shown { OnOk result (ComesAfter self.old.mask.moment command.now self.new.mask.moment
             × AddsTraceLine E.contents self.old.err self.new.err (codes "C: ")
             (take most_shown (shown_command command.now))) }
-        ensures same { self.new.password ≡ self.old.password }
+        ensures same { self.new.mask.password ≡ self.old.mask.password }
     {
         self.asked = asked;
-        self.to_login = is_login(command);
+        self.mask.pass(command);
         let command = cut(shown_command(command));
         if let Some(talk) = self.talk {
             talk.ask(command);
@@ -116,7 +112,7 @@ impl<'a, E: Write> Trace<'a, E> {
     /// Shows a part of the conversation, unless it is within a body.
     fn note(&mut self, part: Note<'_>) -> io::Result<()>
         ensures shown { OnOk result (ShowsPart E.contents self.old part.entry self.new) }
-        ensures same { self.new.password ≡ self.old.password }
+        ensures same { self.new.mask.password ≡ self.old.mask.password }
     {
         match part {
             Note::Command(asked, command) => self.show_command(asked, command),
@@ -172,9 +168,8 @@ impl<'a, W: Wire, E: Write + Drop> TracedWire<'a, W, E> {
             alloc,
             err,
             talk,
-            password,
+            mask: Mask::new(password),
             asked: None,
-            to_login: false,
             lines: 0,
             octets: 0,
         });
