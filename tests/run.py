@@ -1,10 +1,10 @@
 #!/usr/bin/env python3
 """Runs the tests from outside: those of each program, over the program as it was built last.
 
-A program that was not built is a failure, also of each test that needs it beside its own; `--only NAME` runs one program's
-tests. A test that needs software which isn't there is skipped, with a line that names it. The status is 0 only if every other
-test has passed. Nothing is left out by mistake: a folder with tests that no list names, a table that no list names and a `-k`
-that fits no test are errors.
+A program that was not built is a failure, also of each test that needs it beside its own, and so is one that doesn't run
+with a library preloaded; `--only NAME` runs one program's tests. A test that needs software which isn't there is skipped,
+with a line that names it. The status is 0 only if every other test has passed. Nothing is left out by mistake: a folder with
+tests that no list names, a table that no list names and a `-k` that fits no test are errors.
 """
 
 import argparse
@@ -16,7 +16,7 @@ from pathlib import Path
 TESTS = Path(__file__).resolve().parent
 sys.path.insert(0, str(TESTS))
 
-from harness import programs  # noqa: E402 (the path has to be there first)
+from harness import preload, programs  # noqa: E402 (the path has to be there first)
 
 
 def read_words():
@@ -50,6 +50,9 @@ def run_tests_of(name, words):
     path = programs.path_of(name)
     if not path.is_file():
         print(f"tests of {name}: {path} is not there; `make test-{name}` builds it")
+        return False, suite.countTestCases()
+    if not preload.works_with(path):
+        print(f"tests of {name}: {path} doesn't run with a library preloaded: has it a sanitizer?")
         return False, suite.countTestCases()
     begun = time.monotonic()
     result = unittest.TextTestRunner(sys.stdout, verbosity=2 if words.verbose else 0).run(suite)

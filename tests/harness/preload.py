@@ -7,6 +7,8 @@ from pathlib import Path
 
 from harness import programs
 
+SECONDS_TO_SHOW_VERSION = 10
+
 
 @contextmanager
 def library(name):
@@ -16,3 +18,17 @@ def library(name):
         subprocess.run(["cc", "-O1", "-Wall", "-Werror", "-shared", "-fPIC", "-o", built,
                         programs.ROOT / "tests" / f"{name}.c", "-ldl"], check=True, timeout=programs.SECONDS)
         yield built
+
+
+def works_with(program):
+    """True if the program runs with a library preloaded as it does without: with a sanitizer in it one doesn't."""
+    def run(**changes):
+        return subprocess.run([program, "--version"], stdin=subprocess.DEVNULL, capture_output=True,
+                              env=programs.environment(**changes), timeout=SECONDS_TO_SHOW_VERSION)
+
+    with library("hurry") as built:
+        try:
+            alone, preloaded = run(), run(LD_PRELOAD=str(built))
+        except subprocess.TimeoutExpired:
+            return False
+    return (alone.returncode, alone.stdout) == (preloaded.returncode, preloaded.stdout)
