@@ -210,6 +210,16 @@ class Unattended(unittest.TestCase):
         self.account.rcfile.write_bytes(self.account.rcfile.read_bytes() + b"timeout = 5\n")
         self.assertEqual(self.session(), (0, ["getmail: warning: line 15: options.timeout has no effect"]))
 
+    def test_two_notices_of_which_one_is_mended(self):
+        """Each stands by itself: the other one isn't told anew."""
+        odd = [self.account.maildir / "new" / self.account.name(*message) for message in TWO]
+        for path in odd:
+            path.mkdir()
+        lines = [self.line(f"{path}: not a regular file") for path in odd]
+        self.assertEqual(self.session(), (0, lines))
+        odd[0].rmdir()
+        self.assertEqual(self.session(), (0, []))
+
     def test_an_rc_file_that_is_wrong(self):
         good = self.account.rcfile.read_bytes()
         self.account.rcfile.write_bytes(good.replace(b"port = ", b"port = x"))
