@@ -81,6 +81,9 @@ pub trait Device {
     // The premise.
     ghost sound: { Self → Type 0 };
 
+    // What it counted.
+    ghost counted: { Self → ℕ → Type 0 };
+
     /// Reads { or not.
     fn read(&mut self, buf: &mut [u8; 4]) -> bool
         requires { Hidden 3 }
@@ -88,7 +91,7 @@ pub trait Device {
         ensures reads { sound self.new → sound self.old × Hidden { } };
 
     fn count(&self) -> u64
-        ensures { result ≡ 0 };
+        ensures { counted self.now result };
 
     /// Is refused or not.
     fn flush(&mut self) -> Result<(), Fault>
@@ -100,6 +103,8 @@ pub struct Real;
 
 impl Device for Real {
     ghost sound = { λ _. ⊥ };
+
+    ghost counted = { λ _ _. Unit {0} };
 
     fn read(&mut self, buf: &mut [u8; 4]) -> bool {
         // not counted
@@ -118,12 +123,28 @@ pub struct Over<D>(D);
 impl<D: Device> Device for Over<D> {
     ghost sound = { λ d. D.sound d.0 };
 
+    ghost counted = { λ d. D.counted d.0 };
+
     fn read(&mut self, buf: &mut [u8; 4]) -> bool {
         self.0.read(buf)
     }
 
     fn count(&self) -> u64 {
         self.0.count()
+    }
+}
+
+impl From<Real> for Over<Real> {
+    ghost from_gives = { λ d o. o.0 ≡ d };
+
+    fn from(device: Real) -> Over<Real> {
+        Over(device)
+    }
+}
+
+impl From<Real> for u8 {
+    fn from(_device: Real) -> u8 {
+        0
     }
 }
 
@@ -197,7 +218,7 @@ def test_axioms(sources):
         "1 read reads Hidden { }".split()]
     assert list(axioms.premises(programs)) == ["  Over, a Device (crates/high/src/device.rt): λ d. D.sound d.0"]
     assert list(axioms.excuses(programs)) == ["  Device: flush may be refused"]
-    assert list(axioms.uncovered_code(programs)) == ["  high 6: device.rt 6", "  6 lines in all, of 19 of functions"]
+    assert list(axioms.uncovered_code(programs)) == ["  high 12: device.rt 12", "  12 lines in all, of 25 of functions"]
     assert [axioms.PINS_NOTHING.fullmatch(clause) is None for clause in (
         "result ≡ 3", "IsTrue result ↔ a.now < 3", "IfErr result (λ e. e ≡ found.now)", "result ≤ 2", "Tallies a b c",
         "IfErr result (λ e. e ≡ Fault.Refused)", "IsTrue result → length a.now ≤ 4",

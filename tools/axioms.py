@@ -25,6 +25,8 @@ FUNCTION = re.compile(r"^( *)(?:pub(?:\([a-z]+\))? )?(?:const )?fn (\w+)", re.MU
 TRAIT = re.compile(r"^(?:pub(?:\(crate\))? )?trait (\w+)(?:<[^>]*>)?(?:: ([^{;]*))?[^{;]*\{", re.MULTILINE)
 HANDLE = re.compile(r"\b(Threads|Wait|Net|Processes)\b[<+ ]")
 NAMES_PREMISE = re.compile(r"\bsound\b")
+GHOST = re.compile(r"\bghost (\w+):")
+OPEN = re.compile(r"\bghost (\w+) = \{ λ[ _]*\. Unit \{0\} \};")
 # Clauses that don't say what a function does: a count of refusals, which faults there are, a bound, or what is known of a
 # device of which nothing is known.
 PINS_NOTHING = re.compile(r"Tallies .*|self\.new ≡ record self\.old \{ failures = self\.new\.failures \}"
@@ -58,7 +60,8 @@ EXCUSES = {
 UNCOVERED = """\
 4. Code that no contract covers: the lines, without comments and empty ones, of functions that have no contract of
    their own, and of which no trait says anything, or only what 1 assumes. A clause that only counts refusals, or says
-   which faults there are, or gives a bound, or speaks of a state of which nothing is known, is no cover."""
+   which faults there are, or gives a bound, or speaks of a state of which nothing is known or that the `impl` leaves
+   open, is no cover."""
 
 
 class Function(NamedTuple):
@@ -142,7 +145,9 @@ class Programs:
         self.files = {(crate, file): without_comments(sources.text(crate, file))
                       for crate in crates for file in sources.files(crate)}
         traits = [(found, text) for text in self.files.values() for found in TRAIT.finditer(text)]
-        self.traits = {found[1]: functions_in(braced(text, found.end() - 1) + "\n") for found, text in traits}
+        bodies = {found[1]: braced(text, found.end() - 1) for found, text in traits}
+        self.traits = {name: functions_in(body + "\n") for name, body in bodies.items()}
+        self.ghosts = {name: set(GHOST.findall(body)) for name, body in bodies.items()}
         self.above = {found[1]: re.findall(r"\w+", found[2] or "") for found, _ in traits}
         self.impls = {(impl.type, impl.trait): impl for text in self.files.values() for impl in impls_in(text)}
         specs = [(crate, f"specs/{file.name}") for crate in crates
@@ -177,13 +182,22 @@ class Programs:
                 left += self.named[word]
         return found
 
+    def pins(self, impl, function):
+        """The clauses of an impl's trait that say what the function does there: not by what the impl leaves open."""
+        is_open = set(OPEN.findall(impl.text))
+        for text in (text for each in self.traits.get(impl.trait, ()) if each.name == function.name for text in each.pins()):
+            named = self.ghosts[impl.trait] & set(re.findall(r"\w+", text))
+            if not named or named - is_open:
+                yield text
+
     def is_covered(self, impls, function):
         """Whether its own clauses, or else those of its trait, say what the function does, and aren't only assumed."""
         clauses = function.pins()
         if not (impl := next((impl for impl in impls if impl.at <= function.at < impl.at + len(impl.text)), None)):
             return clauses != []
-        clauses = clauses or [text for each in self.traits.get(impl.trait, ()) if each.name == function.name
-                              for text in each.pins()]
+        if impl.trait == "From":
+            return "ghost from_gives = " in impl.text
+        clauses = clauses or list(self.pins(impl, function))
         is_assumed = self.premise(impl) == UNKNOWN and any(map(NAMES_PREMISE.search, clauses))
         return clauses != [] and not is_assumed
 
