@@ -1,5 +1,5 @@
-"""`popd` stays in the Maildir although its owner swaps files and folders with links and named pipes while it serves: run by
-the superuser it serves and removes nothing of another folder, and waits for no pipe."""
+"""`popd` stays in the Maildir although its owner swaps files and folders with links and named pipes while it serves: it serves
+no file in the place of another, and run by the superuser it follows no link in the place of a folder, and waits for no pipe."""
 
 import collections
 import contextlib
@@ -29,6 +29,8 @@ RENAMEAT2 = ctypes.CDLL(None).renameat2
 AT_FDCWD, RENAME_EXCHANGE = -100, 2
 ONE_MESSAGE = b"+OK 6 octets\r\nmine\r\n.\r\n"
 UNAVAILABLE = b"-ERR message unavailable\r\n"
+
+superuser_only = unittest.skipIf(os.geteuid() != 0, "others follow links to folders, and wait for pipes")
 
 
 def put(path, content):
@@ -86,8 +88,6 @@ class Swaps(unittest.TestCase):
     and times of change."""
 
     def setUp(self):
-        if os.geteuid() != 0:
-            self.skipTest("only the superuser may open the files of all")
         self.begin()
 
     def begin(self):
@@ -134,9 +134,11 @@ class OneSwap(Swaps):
     def test_a_link_to_another_message(self):
         self.check_not_served(lambda path: os.symlink(self.folder / "new" / "bnew", path))
 
+    @superuser_only
     def test_a_pipe(self):
         self.check_not_served(os.mkfifo)
 
+    @superuser_only
     def test_a_link_in_the_place_of_a_folder(self):
         for part in PARTS:
             with self.subTest(part):
@@ -211,7 +213,7 @@ class Swapping(Swaps):
             print(self.id(), dict(counts))
         return counts[MINE], counts[UNAVAILABLE]
 
-    def check_files(self, make, by=(), owner=0):
+    def check_files(self, make, by=(), owner=None):
         """In the place of each file is every other time what `make` makes of a path and of the other folder's file."""
         paths = [(self.folder / part / (name + part), self.spare / (name + part)) for part in PARTS for name in NAMES]
 
@@ -221,7 +223,7 @@ class Swapping(Swaps):
                     old.unlink(missing_ok=True)
                 put(path, b"mine\n")
                 make(spare, self.foreign / spare.name)
-                for made in (path, spare):
+                for made in (path, spare) if owner is not None else ():
                     os.chown(made, owner, owner, follow_symlinks=False)
 
         served, refused = self.check(paths, arrange, by)
@@ -231,9 +233,11 @@ class Swapping(Swaps):
     def test_files_and_links(self):
         self.check_files(lambda path, target: os.symlink(target, path))
 
+    @superuser_only
     def test_files_and_pipes(self):
         self.check_files(lambda path, _: os.mkfifo(path))
 
+    @superuser_only
     def test_folders_and_links(self):
         paths = [(self.folder / part, self.spare / part) for part in PARTS]
         for _, spare in paths:
@@ -245,6 +249,7 @@ class Swapping(Swaps):
 
         self.check(paths, arrange)
 
+    @superuser_only
     def test_files_and_links_for_the_owner(self):
         """Run by the owner of the Maildir it serves no file in the place of another either, though that one may be read."""
         holder = Path(self.maildir.holder.name)
