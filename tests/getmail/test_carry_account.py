@@ -403,10 +403,10 @@ class Odd(InHome):
 class Reading(InHome):
     """A mail reader works just before one of the calls for files of the Maildir, each of them in turn."""
 
-    def read(self, _=None, digest=""):
+    def read(self, _=None, digest="", parts=("cur", "new")):
         """Each new message is read, and each that was read gets other flags; with a digest, those of this account alone."""
         maildir = self.home.maildir
-        for part in ("cur", "new"):
+        for part in parts:
             for name in os.listdir(maildir / part):
                 base, _, flags = name.partition(":2,")
                 with contextlib.suppress(FileNotFoundError):
@@ -417,6 +417,10 @@ class Reading(InHome):
     def read_old_names(self, _):
         """As if the other names came only now."""
         self.read(digest=self.home.old)
+
+    def read_new_ones(self, _):
+        """What is in `cur` keeps its name, so that no name that was listed there goes."""
+        self.read(parts=("new",))
 
     def remove(self, _=None):
         """The owner removes a message, whatever its name is."""
@@ -437,6 +441,9 @@ class Reading(InHome):
                     self.assertGreater(number, 20)
                     return
                 self.assertEqual((self.home.names(self.home.old), self.home.faults()), ([], faults))
+                # A message that has no row yet isn't missed between two listings.
+                for digest in (self.home.old, self.home.new):
+                    self.assertRegex(self.home.record(digest).read_bytes(), rb"\nd [0-9]+ 1\n")
                 # What the reader has moved isn't put back.
                 left = [name[64:] for name in os.listdir(self.home.maildir / "new") if name.startswith(self.home.new)]
                 self.assertEqual(self.moved & set(left), set())
@@ -444,6 +451,7 @@ class Reading(InHome):
 
     def test_with_renames_that_spare_what_is_there(self):
         self.play(self.read, NONE)
+        self.play(self.read_new_ones, NONE)
 
     def test_with_links(self):
         with mock.patch("ctypes.CDLL", lambda *_, **__: object()):

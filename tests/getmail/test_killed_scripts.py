@@ -6,17 +6,19 @@ With TESTS_SCRIPTS=whole each scene is played after each change; else some of th
 
 import os
 import random
+import re
 import signal
 import tempfile
 import unittest
+from collections import Counter
 from dataclasses import dataclass, field
 from pathlib import Path
 
 from getmail.account import Account
-from getmail.carrying import KEPT, Home, run_apart, run_here, module
+from getmail.carrying import FIRST, KEPT, Home, module, run_apart, run_here
 from getmail.mbox_account import MboxAccount
 from getmail.shared_server import SharedServer
-from harness import power, preload, programs
+from harness import power, preload
 from harness.kernel import LOOPBACK
 
 WHOLE = os.environ.get("TESTS_SCRIPTS") == "whole"
@@ -134,14 +136,19 @@ class PowerLost(Carrying):
 
     MOST = 64 if WHOLE else 3
 
-    def states(self, home):
-        """The trees that a loss of power can leave, each once."""
-        watched, seen = power.Watched(home.home), set()
-        note = Path(self.note) / "power"
+    def watched(self, home):
+        """The tree before the script, and what it changes."""
+        watched, note = power.Watched(home.home), Path(self.note) / "power"
         run = home.carry(LD_PRELOAD=self.watch, CHANGES_NOTE=str(note))
         self.assertEqual(run.status, 0, run)
         changes = watched.changes(note.read_bytes())
         note.unlink()
+        return watched, changes
+
+    def states(self, home):
+        """The trees that a loss of power can leave, each once."""
+        watched, changes = self.watched(home)
+        seen = set()
         renamed = [(path, path.replace(home.old, home.new)) for path in watched.start if f"{home.old}." in path]
         for _, image, _ in power.fronts(watched, changes, self.MOST, random.Random(1)):
             state = tuple(sorted(image.items()))
@@ -164,6 +171,27 @@ class PowerLost(Carrying):
 
     def test_an_mboxrd_file(self):
         self.check("power lost, over an mboxrd file", self.play(MboxAccount))
+
+    def test_a_message_that_was_not_flushed(self):
+        """No record says that it was delivered before its file and its name are on the disk."""
+        uid, text = FIRST[-1]
+        with Home() as home:
+            watched, changes = self.watched(home)
+            path, = (path for path, content in watched.start.items() if content == text)
+            new_path, folder = path.replace(home.old, home.new), os.path.dirname(path)
+            file = sorted(watched.start).index(path)
+            before = [power.Name(path, None), power.FlushFolder(folder), power.Length(file, 0), power.Flush(file, path),
+                      power.Write(file, 0, text), power.Name(path, file)]
+            counts = Counter()
+            for count, image, lost in power.fronts(watched, before + changes, 64, random.Random(1), len(before)):
+                # A rename within a folder leaves one of its names, once the first one is on the disk.
+                is_named = power.FlushFolder(folder) in changes[:count - len(before)]
+                is_said = any(re.search(rb"\n%s [0-9]+ 1\n" % uid, image.get(f".getmail/seen-{digest}", b""))
+                              for digest in (home.old, home.new))
+                if is_said and not (is_named and path not in image and new_path not in image):
+                    self.assertEqual(image.get(new_path, image.get(path)), text, lost)
+                counts[is_said] += 1
+        self.assertGreater(min(counts[False], counts[True]), 10)
 
 
 class Converted(Killed):
