@@ -131,6 +131,26 @@ class Carried(Carrying):
         self.check("without deletion", self.play(Account, ("getmailrc", "new"), (), 1 if WHOLE else 3))
 
 
+    def test_what_is_left_beside_a_record(self):
+        """A run of the account that fetches a message removes it once it is an hour old."""
+        with Home() as home:
+            known = {*os.listdir(home.folder), home.record(home.new).name, f"carried-{home.old}-{home.new}",
+                     f"lock-{home.old}", f"lock-{home.new}"}
+            rcs, removed = {home.old: "getmailrc", home.new: "new"}, Counter()
+            for number in range(1, MOST):
+                home.restore()
+                if home.carry(**self.killed(number)).status != KILLED:
+                    break
+                for name in set(os.listdir(home.folder)) - known:
+                    os.utime(home.folder / name, (0, 0))
+                    home.server.messages.append(LATE)
+                    rc = next(rc for digest, rc in rcs.items() if name.startswith(f"seen-{digest}"))
+                    home.fetch(rc)
+                    self.assertFalse((home.folder / name).exists(), name)
+                    removed[rc] += 1
+            self.assertGreater(min(removed[rc] for rc in rcs.values()), 1)
+
+
 class PowerLost(Carrying):
     """A loss of power in place of the kill. Of two names that a rename has within a folder, one is always there."""
 
