@@ -1,9 +1,11 @@
 #!/usr/bin/env python3
 """Tests of the programs that print what is promised and what is trusted, tools/statement.py and tools/axioms.py: over a
 small tree whose answers are worked out by hand, and over this one. docs/STATEMENT.txt and docs/AXIOMS.txt are what they
-print."""
+print. And no program in tools/ minds if nobody reads what it prints."""
 
+import os
 import re
+import subprocess
 import sys
 import tempfile
 from pathlib import Path
@@ -256,6 +258,18 @@ def test_excuses():
     assert not [name for name in axioms.EXCUSES if f"(`{name}`)" not in " ".join(said.split())]
 
 
+def test_unread():
+    """A program whose reader has ended ends well and says nothing about it."""
+    read_end, write_end = os.pipe()
+    os.close(read_end)
+    begun = [subprocess.Popen([sys.executable, TOP / "tools" / name], stdout=write_end, stderr=subprocess.PIPE, text=True)
+             for name in ("statement.py", "axioms.py", "notices.py", "mutants.py")]
+    os.close(write_end)
+    for process in begun:
+        _, told = process.communicate()
+        assert (process.returncode, told) == (0, ""), told
+
+
 def old_texts():
     """A line for each text in docs/ that isn't what its tool prints."""
     for name, tool in (("docs/STATEMENT.txt", statement), ("docs/AXIOMS.txt", axioms), ("NOTICES", notices)):
@@ -271,6 +285,7 @@ def main():
             test(sources)
     test_this_tree()
     test_excuses()
+    test_unread()
     faults = list(old_texts())
     print(*faults or ["docs/STATEMENT.txt, docs/AXIOMS.txt and NOTICES are what the sources say"], sep="\n")
     return 1 if faults else 0

@@ -12,7 +12,7 @@ import sys
 import textwrap
 from typing import NamedTuple
 
-from sources import TOP, Sources, without_comments, words_of
+from sources import TOP, Sources, print_whole, without_comments, words_of
 
 sys.path.insert(0, str(TOP))
 
@@ -294,4 +294,4 @@ def text_of(top=TOP):
 
 
 if __name__ == "__main__":
-    print(text_of(), end="")
+    print_whole(text_of())

@@ -3,9 +3,8 @@
 `crates/NAME/must-fail/*.edit`, whose first two lines say so."""
 
 import re
-import sys
 
-from sources import TOP
+from sources import TOP, print_whole
 
 HEAD = re.compile(r"# promise: (.+)\n# refused by: (`\S+`(?: \(`\w+`\))?)\n(?=file: )")
 BEGIN = "| promise | mutant | refused by |\n|---|---|---|\n"
@@ -24,4 +23,4 @@ def table():
 
 
 if __name__ == "__main__":
-    sys.stdout.write(table())
+    print_whole(table())

@@ -10,7 +10,7 @@ import subprocess
 from pathlib import Path
 
 from axioms import PROGRAMS
-from sources import TOP
+from sources import TOP, print_whole
 from build import crates_of
 
 BELOW = {"strsim", "unicode_segmentation", "ucd_breaks"}
@@ -43,4 +43,4 @@ def text_of():
 
 
 if __name__ == "__main__":
-    print(text_of(), end="")
+    print_whole(text_of())

@@ -4,7 +4,9 @@ A definition is one of a file of `specs/`. A type, a constant, a trait or a func
 std and the crates of the kit define is not looked at.
 """
 
+import os
 import re
+import sys
 from functools import cache
 from pathlib import Path
 from typing import NamedTuple
@@ -30,6 +32,15 @@ class Definitions(NamedTuple):
 
     uses: dict
     lines: dict
+
+
+def print_whole(text):
+    """Prints the text as it is. Nothing is wrong if a reader such as `head` ends before it has read all."""
+    try:
+        print(text, end="", flush=True)
+    except BrokenPipeError:
+        # What is left is written when the program ends.
+        os.dup2(os.open(os.devnull, os.O_WRONLY), sys.stdout.fileno())
 
 
 def paths_in(tree):

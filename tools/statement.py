@@ -11,7 +11,7 @@ import re
 import sys
 from typing import NamedTuple
 
-from sources import TOP, Sources, Thing
+from sources import TOP, Sources, Thing, print_whole
 
 class Part(NamedTuple):
     """A part of the text, which needs only those before it: what it has besides its definitions. A law or a call is a crate
@@ -217,6 +217,6 @@ def text_of(top=TOP):
 
 if __name__ == "__main__":
     if sys.argv[1:] == ["--counts"]:
-        print(*Statement(Sources()).counts(), sep="\n")
+        print_whole("".join(f"{line}\n" for line in Statement(Sources()).counts()))
     else:
-        print(text_of(), end="")
+        print_whole(text_of())
