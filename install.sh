@@ -38,19 +38,27 @@ if [ "${1:-}" != --remove ]; then
     done
 fi
 
+# placed MODE PLACE COMMAND: what the command prints takes the place of what is there, as a whole. If that is a link, the file
+# that it leads to stays, and if it is a program that runs, it runs on.
+placed() {
+    mode=$1 target=$2
+    shift 2
+    mkdir -p "$(dirname "$target")"
+    rm -f "$target.new"
+    "$@" >"$target.new"
+    chmod "$mode" "$target.new"
+    mv -f "$target.new" "$target"
+}
+
 # put MODE FILE PLACE
 put() {
-    mkdir -p "$(dirname "$3")"
-    cp "$2" "$3"
-    chmod "$1" "$3"
+    placed "$1" "$3" cat "$2"
 }
 
 # put_named FILE PLACE: a file that names the programs' folder gets the PREFIX; with /usr, PATH names it once. The files
 # beside it get their full paths.
 put_named() {
-    mkdir -p "$(dirname "$2")"
-    sed "s|/usr/local/|$prefix/|g; s|/usr/bin:/usr/bin|/usr/bin|; s#\<$beside#$prefix/share/doc/getmail/\\2#g" "$1" >"$2"
-    chmod 644 "$2"
+    placed 644 "$2" sed "s|/usr/local/|$prefix/|g; s|/usr/bin:/usr/bin|/usr/bin|; s#\<$beside#$prefix/share/doc/getmail/\\2#g" "$1"
 }
 
 # remove FILE PLACE

@@ -202,6 +202,27 @@ class Install(Copied):
         self.make("uninstall", f"DESTDIR={self.place}")
         self.assertEqual(list(self.files("usr/local")), ["bin/other"])
 
+    def test_what_a_link_leads_to_stays(self):
+        """Each file takes the place of a link, and what else has its name with `.new` goes."""
+        other = self.top.parent / "other"
+        other.write_text("another's")
+        names = ("bin/getmail", "bin/popd.new", "share/man/man1/getmail.1", "share/doc/getmail/README.md.new")
+        for name in names:
+            (self.place / name).parent.mkdir(parents=True, exist_ok=True)
+            (self.place / name).symlink_to(other)
+        self.make("install", f"PREFIX={self.place}")
+        self.assertEqual(other.read_text(), "another's")
+        self.assertEqual([path for path in self.place.rglob("*") if path.is_symlink() or path.suffix == ".new"], [])
+        self.assertEqual((self.place / "bin/getmail").read_bytes(), programs.path_of("getmail").read_bytes())
+
+    def test_a_program_that_runs_is_replaced(self):
+        self.make("install", f"PREFIX={self.place}")
+        with subprocess.Popen([self.place / "bin/popd", "--rehearse"], stdin=subprocess.PIPE, stdout=subprocess.PIPE) as process:
+            self.assertEqual(process.stdout.readline(), b"+OK popd ready\r\n")
+            self.make("install", f"PREFIX={self.place}")
+            told, _ = process.communicate(b"QUIT\r\n", timeout=programs.SECONDS)
+            self.assertEqual(told, b"+OK bye\r\n")
+
     def test_the_programs_are_installed_as_they_are(self):
         for name in ("getmail", "popd"):
             (self.top / "bin" / name).write_text(f"{name} of another day")
