@@ -1,9 +1,12 @@
 #!/usr/bin/env python3
 """Writes dist/quailtuffet-VERSION-linux-ARCH.tar.gz and, if dpkg-deb is installed, dist/quailtuffet_VERSION_ARCH.deb.
 
+    packaging/dist.py                      # both
+    packaging/dist.py --package FOLDER     # the package alone, in FOLDER, as debian/rules wants it
+
 Both hold the programs of bin/, which have to be there and need only the C library. The archive installs itself by its
-own install.sh. The same files give the same octets: the time of each file is that of SOURCE_DATE_EPOCH, or of the last
-commit.
+own install.sh; debian/ says what the package is. The same files give the same octets: the time of each file is that of
+SOURCE_DATE_EPOCH, or of the last commit.
 """
 
 import gzip
@@ -16,7 +19,6 @@ import sys
 import tarfile
 import tempfile
 import time
-from email.utils import formatdate
 from pathlib import Path
 
 TOP = Path(__file__).resolve().parent.parent
@@ -24,67 +26,8 @@ CONTENT = ("bin/getmail", "bin/popd", "Makefile", "install.sh", "README.md", "CH
            "completions", "examples", "docs/FROM-GETMAIL6.md", "docs/getmailrc.sample")
 # What demo runs leave in the repository.
 LEFT_OUT = re.compile(r"__pycache__|/seen-|/lock-|\.pyc$")
-MAINTAINER = "The Quailtuffet authors <maintainers@users.noreply.quailtuffet.example>"
 # Debian's getmail6 breaks every package `getmail` below version 6.7, so this one has a name of its own.
 NAME = "quailtuffet"
-CONTROL = """\
-Package: {name}
-Version: {version}
-Architecture: {arch}
-Maintainer: {maintainer}
-Installed-Size: {size}
-Depends: libc6 (>= {libc})
-Recommends: stunnel4
-Suggests: python3
-Conflicts: getmail, getmail4, getmail6
-Section: mail
-Priority: optional
-Description: POP3 fetcher and server with machine-checked proofs
- getmail fetches mail from a POP3 server into a Maildir or an mboxrd file. A
- run may be cut at any moment: no message is lost and none is stored twice.
- popd is a small POP3 server over one user's Maildir. A prover has checked the
- contracts of both; getmail(1) and popd(8) say what is promised.
- .
- The program getmail reads the rc files of getmail6 and takes its place; both
- cannot be installed at once.
-"""
-ENTRY = """\
-{name} ({version}) unstable; urgency=medium
-
-  {text}
-
- -- {maintainer}  {date}
-"""
-CHANGES = "* What is new is in /usr/share/doc/getmail/CHANGELOG.md."
-NEWS = """\
-The program getmail of this package takes the place of getmail6's, and the
-  package getmail6 is removed. Lines of cron, timers and scripts that started
-  getmail6 start this program from now on. It has a record of its own, so it
-  may fetch again what getmail6 has fetched: before its next run read
-  /usr/share/doc/getmail/FROM-GETMAIL6.md."""
-# What is said once, when the package is first installed.
-FIRST = """\
-#!/bin/sh
-set -e
-if [ "$1" = configure ] && [ -z "$2" ]; then
-    echo "{name}: if cron or a script has started getmail6's program getmail, it starts this one now:" \\
-        "read /usr/share/doc/getmail/FROM-GETMAIL6.md before its next run" >&2
-fi
-"""
-COPYRIGHT = """\
-Format: https://www.debian.org/doc/packaging-manuals/copyright-format/1.0/
-Upstream-Name: getmail
-Comment: {comment}
-
-Files: *
-Copyright: 2026 The Quailtuffet authors
-License: Expat
-{text}"""
-LINKED = """
-Files: {files}
-Copyright: {holders}
-License: {licence}
-{text}"""
 
 
 def version():
@@ -139,26 +82,19 @@ def indented(text):
 
 
 def copyright_text():
-    """Debian's copyright file: the licence of the programs, and the notice of each crate that is linked in."""
-    licence = (TOP / "LICENSE").read_text().partition("\n\n")[2].partition("\n\n")[2]
-    first, *notices = re.split("^== ", (TOP / "NOTICES").read_text(), flags=re.MULTILINE)
-    text = COPYRIGHT.format(comment=indented(first).strip(), text=indented(licence))
-    for notice in notices:
-        crates, _, content = notice.partition("\n\n")
-        crates = crates.split(", ")
-        holders = re.findall(r"^Copyright (?:\([cC]\)|©) (.+)", content, re.MULTILINE)
-        text += LINKED.format(files=" ".join(f"kit/{crate}/*" for crate in crates),
-                              holders="\n ".join(holders or [f"the authors of {' and '.join(crates)}"]),
-                              licence=f"{'Unicode' if content.startswith('UNICODE') else 'Expat'}-{crates[0]}",
-                              text=indented(content))
-    return text
+    """Debian's copyright file, which ends with a comment: the notices of what is linked in follow there."""
+    return (TOP / "debian/copyright").read_text() + indented((TOP / "NOTICES").read_text())
 
 
-def entry(text, seconds):
-    return ENTRY.format(name=NAME, version=version(), text=text, maintainer=MAINTAINER, date=formatdate(seconds))
+def control(size):
+    """The package's control file, from both parts of debian/control, for files of so many kilobytes."""
+    source, package = (TOP / "debian/control").read_text().split("\n\n", 1)
+    both = re.findall(r"^(?:Section|Priority|Maintainer): .*\n", source, re.MULTILINE)
+    more = "".join([f"Version: {version()}\n", f"Installed-Size: {size}\n", *both])
+    return package.replace("${shlibs:Depends}", f"libc6 (>= {oldest_libc()})").replace("Description: ", f"{more}Description: ")
 
 
-def fill_tree(tree, seconds):
+def fill_tree(tree):
     """Installs into the tree, as Debian wants it: compressed pages and change log, its copyright file, its zsh folder."""
     install = {**os.environ, "DESTDIR": str(tree), "PREFIX": "/usr"}
     subprocess.run([TOP / "install.sh"], env=install, check=True)
@@ -169,8 +105,8 @@ def fill_tree(tree, seconds):
     docs = (tree / "usr/share/doc/getmail").rename(tree / "usr/share/doc" / NAME)
     (tree / "usr/share/doc/getmail").symlink_to(NAME)
     (docs / "copyright").write_text(copyright_text())
-    (docs / "changelog").write_text(entry(CHANGES, seconds))
-    (docs / "NEWS.Debian").write_text(entry(NEWS, seconds))
+    shutil.copy(TOP / "debian/changelog", docs / "changelog")
+    shutil.copy(TOP / "debian/NEWS", docs / "NEWS.Debian")
     for name in ("LICENSE", "NOTICES"):
         (docs / name).unlink()
     for page in [docs / "changelog", docs / "NEWS.Debian", *(tree / "usr/share/man").glob("man?/*")]:
@@ -178,26 +114,24 @@ def fill_tree(tree, seconds):
     (tree / "usr/share/zsh/site-functions").rename(tree / "usr/share/zsh/vendor-completions")
 
 
-def write_package(seconds):
-    """Writes the package and answers its path."""
-    arch = subprocess.run(["dpkg", "--print-architecture"], check=True, capture_output=True, text=True).stdout.strip()
+def write_package(seconds, place):
+    """Writes the package into the folder `place` and answers its path."""
     with tempfile.TemporaryDirectory() as folder:
         tree = Path(folder) / "tree"
         tree.mkdir(mode=0o755)
-        fill_tree(tree, seconds)
+        fill_tree(tree)
         files = sorted(Path(folder, name) for folder, _, names in os.walk(tree) for name in names)
         (tree / "DEBIAN").mkdir()
         (tree / "DEBIAN/md5sums").write_text("".join(
             f"{hashlib.md5(path.read_bytes()).hexdigest()}  {path.relative_to(tree)}\n" for path in files))
-        (tree / "DEBIAN/postinst").write_text(FIRST.format(name=NAME))
-        (tree / "DEBIAN/postinst").chmod(0o755)
-        (tree / "DEBIAN/control").write_text(CONTROL.format(
-            name=NAME, version=version(), arch=arch, maintainer=MAINTAINER, libc=oldest_libc(),
-            size=sum(-(-path.stat().st_size // 1024) for path in files)))
+        shutil.copy(TOP / "debian/postinst", tree / "DEBIAN/postinst")
+        described = control(sum(-(-path.stat().st_size // 1024) for path in files))
+        (tree / "DEBIAN/control").write_text(described)
         for path in (tree, *tree.rglob("*")):
             path.chmod(0o755 if path.is_dir() or path.stat().st_mode & 0o100 else 0o644)
             os.utime(path, (seconds, seconds))
-        path = TOP / "dist" / f"{NAME}_{version()}_{arch}.deb"
+        arch = re.search("^Architecture: (.*)", described, re.MULTILINE)[1]
+        path = place / f"{NAME}_{version()}_{arch}.deb"
         subprocess.run(["dpkg-deb", "--root-owner-group", "--build", tree, path], check=True, stdout=subprocess.DEVNULL,
                        env={**os.environ, "SOURCE_DATE_EPOCH": str(seconds)})
     return path
@@ -208,11 +142,13 @@ def main():
     for name in ("getmail", "popd"):
         if not (TOP / "bin" / name).is_file():
             sys.exit(f"bin/{name} is not there; `make` builds it")
+    if sys.argv[1:2] == ["--package"]:
+        return print(write_package(moment(), Path(sys.argv[2])))
     (TOP / "dist").mkdir(exist_ok=True)
     seconds = moment()
     print(write_archive(f"{NAME}-{version()}-linux-{os.uname().machine}", seconds).relative_to(TOP))
-    if shutil.which("dpkg-deb") and shutil.which("dpkg"):
-        print(write_package(seconds).relative_to(TOP))
+    if shutil.which("dpkg-deb"):
+        print(write_package(seconds, TOP / "dist").relative_to(TOP))
     else:
         print("dpkg-deb is not installed: no .deb was written")
 

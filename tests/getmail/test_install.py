@@ -33,7 +33,7 @@ SCRIPTS = [f"share/doc/getmail/{path.name}" for path in (programs.ROOT / "exampl
 MESSAGE = b"Subject: one\n\nIt is.\n"
 # What the rules of `make install` and `make dist` read.
 PARTS = ("Makefile", "build.py", "crates.txt", "HANDLES", "install.sh", "README.md", "CHANGELOG.md", "LICENSE", "NOTICES", "man",
-         "completions", "examples", "packaging", "docs/FROM-GETMAIL6.md", "docs/getmailrc.sample")
+         "completions", "debian", "examples", "packaging", "docs/FROM-GETMAIL6.md", "docs/getmailrc.sample")
 
 # What can be done without `rt` if the programs are there, and what can't.
 WITHOUT_RT = ("all", "getmail", "popd", "check", "quick", "axioms", "notices", "probe", "libraries", "test", "test-getmail",
@@ -358,6 +358,40 @@ class Dist(Copied):
             line, = self.refusal(words, top=folder)
             self.assertIn("there are no sources here: only demo, install and uninstall can be made", line)
 
+    def test_what_the_linker_gives_is_in_the_programs(self):
+        """Position-independent, with relocations that are read-only before main, and a stack that isn't executable."""
+        if not shutil.which("readelf"):
+            self.skipTest("readelf is not installed")
+        for name in ("getmail", "popd"):
+            told = subprocess.run(["readelf", "-hldW", programs.path_of(name)], check=True, capture_output=True, text=True).stdout
+            self.assertRegex(told, r"FLAGS_1\) +Flags: NOW PIE\n")
+            self.assertRegex(told, r"\n +GNU_RELRO ")
+            self.assertRegex(told, r"\n +GNU_STACK .* RW +0")
+            self.assertNotIn("TEXTREL", told)
+
+    def test_debian_names_the_version(self):
+        version = re.search(r"^## (\S+),", (programs.ROOT / "CHANGELOG.md").read_text(), re.MULTILINE)[1]
+        for name in ("changelog", "NEWS"):
+            self.assertTrue((programs.ROOT / "debian" / name).read_text().startswith(f"quailtuffet ({version}) unstable;"), name)
+
+    def test_debian_builds_the_package(self):
+        """By debian/rules, as a builder does, after `clean`; with a stand-in for `rt`."""
+        missing = [name for name in ("dpkg-buildpackage", "dpkg-deb", "strip") if not shutil.which(name)]
+        if missing:
+            self.skipTest(f"{', '.join(missing)} is not installed")
+        for name in ("getmail", "popd"):
+            (self.top / "bin" / name).rename(self.top / f"{name}.built")
+        folder = self.top.parent / "path"
+        folder.mkdir()
+        (folder / "rt").write_text(PROVE.replace("sleep 12", "true"))
+        (folder / "rt").chmod(0o755)
+        done = subprocess.run(["dpkg-buildpackage", "-b", "-us", "-uc", "-d"], cwd=self.top, capture_output=True, text=True,
+                              env=programs.environment(PATH=f"{folder}:{os.environ['PATH']}", LOG="/dev/null", TOP=str(self.top)),
+                              timeout=5 * programs.SECONDS)
+        self.assertEqual(done.returncode, 0, done.stdout + done.stderr)
+        self.assertEqual(sorted(path.suffix for path in self.top.parent.glob("quailtuffet_*")), [".buildinfo", ".changes", ".deb"])
+        self.assertIn(" mail optional quailtuffet_", next(self.top.parent.glob("*.changes")).read_text())
+
     def package(self):
         """The Debian package that `make dist` writes."""
         if not shutil.which("dpkg-deb"):
@@ -399,17 +433,21 @@ class Dist(Copied):
         self.assertIn("FROM-GETMAIL6.md", news)
 
     def test_the_notices_of_what_is_linked_in(self):
-        """Each crate of which the programs have symbols has its notice in Debian's copyright file, but for core and std."""
+        """Each crate of which the programs have symbols has its notice in Debian's copyright file, but for core and std. The
+        file's own paragraph is about all files of the source."""
         package = self.package()
         subprocess.run(["dpkg-deb", "-x", package, self.place], check=True, timeout=programs.SECONDS)
         text = (self.place / "usr/share/doc/quailtuffet/copyright").read_text()
-        named = set(re.findall(r"kit/(\w+)/\*", text))
+        named = {name for names in re.findall(r"^ == (.*)", text, re.MULTILINE) for name in names.split(", ")}
         linked = {found.decode() for name in ("getmail", "popd")
                   for found in re.findall(rb"\x00([a-z_0-9]+)::", programs.path_of(name).read_bytes())}
         own = {path.name for path in (programs.ROOT / "crates").iterdir()}
         self.assertIn("clap", linked)
         self.assertEqual({crate for crate in linked - own - named if not re.match("core$|std(_|$)|os$", crate)}, set())
         self.assertLessEqual({"clap", "indexmap", "bstr", "memchr", "sha2", "hex", "itoa", "thiserror"}, named)
+        self.assertEqual(re.findall(r"^Files: (.*)", text, re.MULTILINE), ["*"])
+        licence = (programs.ROOT / "LICENSE").read_text().split("\n\n", 2)[2].split()
+        self.assertIn(" ".join(licence), " ".join(re.sub(r"^ \.?", "", text, flags=re.MULTILINE).split()))
 
     def test_the_package_is_open_to_all_whatever_the_umask(self):
         def content():
