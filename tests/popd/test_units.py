@@ -43,6 +43,7 @@ class Units(unittest.TestCase):
     def test_a_connection_starts_one_popd_whose_errors_the_client_never_sees(self):
         self.assertEqual(keys_of("popd.socket")["Accept"], "yes")
         self.assertEqual(keys_of("popd.socket")["MaxConnections"], "1")
+        self.assertEqual([keys_of("popd.socket")[key] for key in ("Conflicts", "Before")], ["popd.service"] * 2)
         unit = keys_of("popd@.service")
         self.assertEqual((unit["StandardInput"], unit["StandardOutput"], unit["StandardError"]), ("socket", "socket", "journal"))
 
