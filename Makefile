@@ -1,7 +1,7 @@
 # getmail and popd: to build them, to try them out, to check them.
 #
-#   make demo       serves a message with popd, fetches it with getmail, and shows each step: within two minutes, also
-#                   before the programs are built
+#   make demo       serves a message with popd, fetches it with getmail, and shows each step: in a second, or before the
+#                   programs are built in two minutes on four cores, in three on two
 #   make            proves and builds the programs into bin/: twenty minutes on four cores the first time, thirty on two,
 #                   seconds if nothing has changed
 #   make check      the gate: every proof, then every test; its last line is 'N passed, 0 failed'

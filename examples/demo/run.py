@@ -76,7 +76,7 @@ class Tried:
     """The programs as `rt try` compiles and runs them: getmail once for both its runs, each of which waits for its rc file."""
 
     def __init__(self, stack, folder, settings):
-        say("The programs aren't proved yet: `rt try` compiles them for this demonstration alone, in a minute or two.\n"
+        say("The programs aren't proved yet: `rt try` compiles them for this demonstration alone, in two or three minutes.\n"
             "`make` proves them and builds them into bin/.")
         self.stack, self.rcfile, self.settings, cases = stack, folder / "getmailrc", settings, folder / "cases"
         os.mkfifo(self.rcfile)

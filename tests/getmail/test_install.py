@@ -576,55 +576,95 @@ class Pages(unittest.TestCase):
         self.check("groff", "-mdoc", "-ww", "-Tutf8")
 
 
-def account_lines(readme=programs.ROOT / "README.md"):
-    """The lines of the README that set up an account, the one in place of systemd's, and the one for cron."""
-    section = readme.read_text().split("## A real account\n")[1].split("\n## ")[0]
-    lines, tunnel, cron = [re.findall("^    (.*)", block, re.MULTILINE)
-                           for block in re.findall(r"(?:^    .*\n)+", section, re.MULTILINE)]
-    return lines, *tunnel, *cron
+def readme_blocks(readme=programs.ROOT / "README.md"):
+    """The blocks of commands of the README, each a list of lines: they install, set up an account, start its tunnel with
+    systemd and without, fetch, fetch by cron, serve, and make from the sources."""
+    blocks = re.findall(r"(?:^    .*\n)+", readme.read_text(), re.MULTILINE)
+    return [re.findall(r"^    (.*)", block, re.MULTILINE) for block in blocks]
 
 
 class Readme(Copied):
-    """The lines of the README that set up a real account, with stand-ins for the editor and the tunnel."""
+    """All commands of the README, where it lies, with stand-ins for the editor, the tunnel and what the system has."""
 
-    def run_lines(self, lines, folder):
-        """Runs the lines in the folder, from an empty home."""
-        messages = [(b"a", b"one\n"), (b"b", b"two\n")]
-        with Server(messages) as server, tempfile.TemporaryDirectory() as home:
-            thread = server.begin_session()
-            (Path(home) / "systemctl").write_text('#!/bin/sh\necho "$*" > "$HOME/started"\n')
-            (Path(home) / "systemctl").chmod(0o755)
-            path = f"{home}:{Path(programs.path_of('getmail')).parent}:{os.environ['PATH']}"
-            edits = f"sed -i -e s/^server.*/server=127.0.0.1/ -e s/^#.port.*/port={server.port}/"
-            changes = {"HOME": home, "EDITOR": edits, "PATH": path}
-            done = subprocess.run(["bash", "-euc", "\n".join(lines)], cwd=folder, capture_output=True, text=True,
-                                  env=programs.environment(**changes), timeout=programs.SECONDS)
-            thread.join(programs.SECONDS)
-            self.assertEqual((done.returncode, done.stderr), (0, ""))
-            self.assertEqual(len(os.listdir(Path(home) / "Maildir/new")), len(messages))
-            self.assertEqual(stat.S_IMODE((Path(home) / ".getmail/getmailrc").stat().st_mode), 0o600)
-            self.assertIn("\nconnect = pop.example.net:995\n", (Path(home) / ".getmail/stunnel.conf").read_text())
-            self.assertIn(f"\naccept = {home}/.getmail/tunnel/pop3s\n", (Path(home) / ".getmail/stunnel.conf").read_text())
-            self.assertEqual(stat.S_IMODE((Path(home) / ".getmail/tunnel").stat().st_mode), 0o700)
-            self.assertEqual((Path(home) / "started").read_text(), "--user enable --now getmail-tunnel.socket\n")
+    MESSAGES = [(b"a", b"one\n"), (b"b", b"two\n")]
+
+    def stand_in(self, home, name, text):
+        (home / name).write_text(f"#!/bin/sh\n{text}\n")
+        (home / name).chmod(0o755)
+
+    def run_lines(self, lines, folder, home, programs_folder=None, **changes):
+        """Runs the lines in the folder by bash, as one script, and answers what they print."""
+        path = f"{home}:{programs_folder or Path(programs.path_of('getmail')).parent}:{os.environ['PATH']}"
+        done = subprocess.run(["bash", "-uc", "\n".join(lines)], cwd=folder, capture_output=True, text=True,
+                              env=programs.environment(HOME=str(home), PATH=path, **changes), timeout=programs.SECONDS)
+        self.assertEqual((done.returncode, done.stderr), (0, ""))
+        return done.stdout
+
+    def check_account(self, readme, folder, programs_folder=None, place=""):
+        """From an empty home, with systemd and without, and with an rc file of another program there before."""
+        _, account, by_systemd, without, fetch, by_cron, _, _ = readme_blocks(readme)
+        self.assertEqual(len(account), 5)
+        for tunnel, told in ((by_systemd, "--user enable --now getmail-tunnel.socket\n"),
+                             (without, "{home}/.getmail/stunnel.conf\n")):
+            with self.subTest(tunnel[0]), Server(self.MESSAGES) as server, tempfile.TemporaryDirectory() as holder:
+                home = Path(holder)
+                self.stand_in(home, "systemctl", 'echo "$*" > ~/started')
+                self.stand_in(home, "stunnel", 'echo "$*" > ~/started')
+                self.stand_in(home, "crontab", 'if [ "$1" = -l ]; then cat ~/lines; else cat > ~/new; mv ~/new ~/lines; fi')
+                (home / ".getmail").mkdir()
+                (home / ".getmail/getmailrc").write_text("another's")
+                threads = [server.begin_session() for _ in range(2)]
+                edits = f"sed -i -e s/^server.*/server=127.0.0.1/ -e s/^#.port.*/port={server.port}/"
+                lines = [line.replace("/usr/share/", f"{place}/usr/share/") for line in [*account, *tunnel, *fetch, *by_cron]]
+                shown = self.run_lines(lines, folder, home, programs_folder, EDITOR=edits)
+                for thread in threads:
+                    thread.join(programs.SECONDS)
+                self.assertIn("2 of 2 messages would be fetched, 0 deleted\n", shown)
+                self.assertEqual((home / "started").read_text(), told.format(home=home))
+                self.check_home(home)
+                self.check_cron(home, tunnel is without, programs_folder)
+
+    def check_home(self, home):
+        settings = home / ".getmail"
+        self.assertEqual(len(os.listdir(home / "Maildir/new")), len(self.MESSAGES))
+        modes = [stat.S_IMODE((settings / name).stat().st_mode) for name in ("getmailrc", "stunnel.conf", "tunnel")]
+        self.assertEqual(modes, [0o600, 0o600, 0o700])
+        self.assertEqual((settings / "getmailrc~").read_text(), "another's")
+        text = (settings / "stunnel.conf").read_text()
+        self.assertIn("\nconnect = pop.example.net:995\n", text)
+        self.assertIn(f"\naccept = {settings}/tunnel/pop3s\n", text)
+
+    def check_cron(self, home, starts_tunnel, programs_folder):
+        """The line for cron names the program, and the one for the tunnel starts it with nothing in the environment but HOME."""
+        *first, last = (home / "lines").read_text().splitlines()
+        folder = programs_folder or Path(programs.path_of("getmail")).parent
+        self.assertEqual(last, f"*/10 * * * * {folder}/getmail --unattended")
+        self.assertEqual(len(first), int(starts_tunnel))
+        if starts_tunnel:
+            (home / "started").unlink()
+            subprocess.run(["/bin/sh", "-c", first[0].removeprefix("@reboot ")], check=True, timeout=programs.SECONDS,
+                           env={"HOME": str(home), "PATH": f"{home}:/usr/bin:/bin"})
+            for _ in range(programs.SECONDS * 20):
+                if (home / "started").exists():
+                    return
+                threading.Event().wait(0.05)
+            self.fail("cron's line doesn't start the tunnel")
 
     def test_in_a_checkout(self):
-        lines, _, cron = account_lines()
-        self.assertEqual(len(lines), 7)
-        self.run_lines(lines, programs.ROOT)
-        self.assertIn("*/10 * * * * $(command -v getmail) --unattended", cron)
+        self.check_account(programs.ROOT / "README.md", programs.ROOT)
 
-    def test_in_an_archive(self):
+    def test_in_an_archive_and_where_it_was_installed(self):
+        """Also those that install, in a folder with what `make dist` makes: apt is a stand-in, which looks for the file."""
+        install, *_ = readme_blocks()
         self.make("dist")
-        archive, = (self.top / "dist").glob("*.tar.gz")
-        with tarfile.open(archive) as opened:
-            opened.extractall(self.place)
-        folder, = self.place.iterdir()
-        self.run_lines(account_lines(folder / "README.md")[0], folder)
-
-    def test_where_it_was_installed(self):
-        self.make("install", f"PREFIX={self.place}")
-        self.run_lines(account_lines(self.place / "share/doc/getmail/README.md")[0], self.place)
+        home = self.top.parent / "home"
+        home.mkdir()
+        self.stand_in(home, "apt", '[ "$1" = install ] && [ -f "$2" ] || exit 1')
+        lines = install if shutil.which("dpkg-deb") else install[1:]
+        self.run_lines(lines, self.top / "dist", home)
+        folder, = (path for path in (self.top / "dist").iterdir() if path.is_dir())
+        self.check_account(folder / "README.md", folder, home / ".local/bin")
+        self.check_account(home / ".local/share/doc/getmail/README.md", self.place.parent, home / ".local/bin")
 
     def test_of_the_package(self):
         if not shutil.which("dpkg-deb"):
@@ -632,9 +672,36 @@ class Readme(Copied):
         self.make("dist")
         package, = (self.top / "dist").glob("*.deb")
         subprocess.run(["dpkg-deb", "-x", package, self.place], check=True, timeout=programs.SECONDS)
-        lines = account_lines(self.place / "usr/share/doc/getmail/README.md")[0]
-        self.assertTrue(any("/usr/share/doc/getmail/getmailrc.sample" in line for line in lines))
-        self.run_lines([line.replace("/usr/share/", f"{self.place}/usr/share/") for line in lines], self.place)
+        readme = self.place / "usr/share/doc/getmail/README.md"
+        self.assertIn("/usr/share/doc/getmail/getmailrc.sample", readme.read_text())
+        self.check_account(readme, self.place.parent, self.place / "usr/bin", place=self.place)
+
+    def test_from_the_sources(self):
+        """All but `make check`, which is the gate."""
+        *lines, check = readme_blocks()[-1]
+        self.assertEqual((len(lines), check.split()[:2]), (3, ["make", "check"]))
+        home = self.top.parent / "home"
+        home.mkdir()
+        shown = self.run_lines(lines, self.top, home)
+        self.assertIn("It works.\n", shown)
+        self.assertTrue((home / ".local/bin/getmail").is_file() and list((self.top / "dist").glob("*.tar.gz")))
+
+    def test_the_line_that_serves(self):
+        (line,), port = readme_blocks()[-2], kernel.free_port()
+        with tempfile.TemporaryDirectory() as holder:
+            self.assertRegex(line, r"^env popd --listen 127\.0\.0\.1:1100 USER PASSFILE MAILDIR$")
+            (make_maildir(Path(holder) / "Maildir") / "new/1").write_bytes(MESSAGE)
+            (Path(holder) / "password").write_text("p\n")
+            (Path(holder) / "password").chmod(0o600)
+            words = line.replace(":1100", f":{port}").replace("USER PASSFILE MAILDIR", "u password Maildir").split()
+            path = f"{Path(programs.path_of('popd')).parent}:{os.environ['PATH']}"
+            with subprocess.Popen(words, cwd=holder, env=programs.environment(PATH=path)) as process:
+                self.addCleanup(process.kill)
+                self.assertTrue(kernel.wait_for_listener(process, port))
+                with Account(port) as account:
+                    run = account.run()
+                process.terminate()
+            self.assertIn(b"1 messages (21 bytes) retrieved", run.out)
 
 
 class Regular(unittest.TestCase):

@@ -10,7 +10,7 @@ import unittest
 from pathlib import Path
 
 from getmail.account import Account
-from getmail.test_install import account_lines
+from getmail.test_install import readme_blocks
 from harness import dovecot, kernel, programs
 from harness.maildir import make_maildir
 
@@ -116,13 +116,12 @@ class Tunnel(unittest.TestCase):
 
     def test_the_first_account_of_the_readme(self):
         """Its lines from an empty home, with stand-ins for the editor and for systemctl, which listens and starts
-        stunnel as the two units do; and with the line for machines without systemd."""
-        lines, tunnel, _ = account_lines()
-        self.assertIn("systemctl", lines[-2])
+        stunnel as the two units do; and with the lines for machines without systemd."""
+        _, account, by_systemd, without, fetch, *_ = readme_blocks()
         served = self.start_dovecot(*self.certificates.signed("pop.example.net"))
-        for how in (lines, [*lines[:-2], tunnel, lines[-1]]):
-            with self.subTest(how[-2]):
-                self.fetch_by(how, served)
+        for tunnel in (by_systemd, without):
+            with self.subTest(tunnel[0]):
+                self.fetch_by([*account, *tunnel, *fetch], served)
 
     def fetch_by(self, lines, served):
         home = Path(tempfile.mkdtemp(dir=self.folder))
@@ -140,7 +139,7 @@ class Tunnel(unittest.TestCase):
                 """), ("systemctl", f"""
                 {listening} {folder}/stunnel ~/.getmail/stunnel.conf > ~/log 2>&1 &
                 until [ -S {near} ]; do sleep 0.05; done
-                """)):
+                """), ("crontab", "")):
             (folder / name).write_text(f"#!/bin/bash{text}")
             (folder / name).chmod(0o755)
         self.addCleanup(lambda: os.kill(int((home / "pid").read_text()), signal.SIGTERM))
