@@ -629,7 +629,7 @@ class Readme(Copied):
         self.assertEqual(len(os.listdir(home / "Maildir/new")), len(self.MESSAGES))
         modes = [stat.S_IMODE((settings / name).stat().st_mode) for name in ("getmailrc", "stunnel.conf", "tunnel")]
         self.assertEqual(modes, [0o600, 0o600, 0o700])
-        self.assertEqual((settings / "getmailrc~").read_text(), "another's")
+        self.assertEqual((settings / "getmailrc.~1~").read_text(), "another's")
         text = (settings / "stunnel.conf").read_text()
         self.assertIn("\nconnect = pop.example.net:995\n", text)
         self.assertIn(f"\naccept = {settings}/tunnel/pop3s\n", text)
