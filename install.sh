@@ -6,7 +6,8 @@
 #   ./install.sh --remove               takes away what was installed, with the same PREFIX
 #
 # With DESTDIR every file goes below that folder. Nothing but these files is written.
-set -eu
+# Nothing is written through a link (-C).
+set -euC
 umask 022
 cd "$(dirname "$0")"
 
@@ -63,7 +64,7 @@ put_named() {
 
 # remove FILE PLACE
 remove() {
-    rm -f "$2"
+    rm -f "$2" "$2.new"
 }
 
 # each_file HOW HOW_NAMED: calls HOW for each file as it is, HOW_NAMED for each that names the programs' folder
@@ -95,7 +96,7 @@ each_file() {
 }
 
 remove_first() {
-    rm -f "$3"
+    rm -f "$3" "$3.new"
 }
 
 if [ "${1:-}" = --remove ]; then

@@ -203,7 +203,7 @@ class Install(Copied):
         self.assertEqual(list(self.files("usr/local")), ["bin/other"])
 
     def test_what_a_link_leads_to_stays(self):
-        """Each file takes the place of a link, and what else has its name with `.new` goes."""
+        """Each file takes the place of a link, and what else has its name with `.new`, as a kill leaves it, goes."""
         other = self.top.parent / "other"
         other.write_text("another's")
         names = ("bin/getmail", "bin/popd.new", "share/man/man1/getmail.1", "share/doc/getmail/README.md.new")
@@ -214,6 +214,10 @@ class Install(Copied):
         self.assertEqual(other.read_text(), "another's")
         self.assertEqual([path for path in self.place.rglob("*") if path.is_symlink() or path.suffix == ".new"], [])
         self.assertEqual((self.place / "bin/getmail").read_bytes(), programs.path_of("getmail").read_bytes())
+        (self.place / "bin/popd.new").symlink_to(other)
+        self.make("uninstall", f"PREFIX={self.place}")
+        self.assertEqual([path for path in self.place.rglob("*") if not path.is_dir()], [])
+        self.assertEqual(other.read_text(), "another's")
 
     def test_a_program_that_runs_is_replaced(self):
         self.make("install", f"PREFIX={self.place}")
