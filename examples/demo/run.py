@@ -143,4 +143,8 @@ def main():
 
 
 if __name__ == "__main__":
-    main()
+    try:
+        main()
+    except BrokenPipeError:
+        # Nobody reads on: what is left is written when this ends.
+        os.dup2(os.open(os.devnull, os.O_WRONLY), sys.stdout.fileno())

@@ -529,6 +529,14 @@ class Demo(Copied):
     def test_the_message_is_fetched_and_then_known(self):
         self.check_demo(self.path_with())
 
+    def test_it_ends_well_if_nobody_reads_on(self):
+        read_end, write_end = os.pipe()
+        os.close(read_end)
+        done = subprocess.run(["python3", "examples/demo/run.py"], cwd=self.top, stdout=write_end, stderr=subprocess.PIPE,
+                              env=programs.environment(), timeout=programs.SECONDS)
+        os.close(write_end)
+        self.assertEqual((done.returncode, done.stderr), (0, b""))
+
     def test_before_any_proof_it_says_so_and_tries_the_programs(self):
         for name in ("getmail", "popd"):
             (self.top / "bin" / name).rename(self.top / f"{name}.built")
