@@ -197,7 +197,7 @@ def test_what_is_read(sources):
     kind = sources.declared("low", "Kind")
     assert sources.lines_read(kind, {"One"}) == ["/// A kind.", "pub enum Kind {", "    One(Far), // The only one.", "}"]
     assert sources.lines_read(kind, set()) == [
-        "/// A kind.", "pub enum Kind {", "    // and 1 more, of which nothing here speaks", "}"]
+        "/// A kind.", "pub enum Kind {", "} // and 1 more"]
     assert named(sources.named(kind)) == ["Far"] and named(sources.named(kind, set())) == []
     law = Thing("high", "specs/Law.antt", "Law")
     assert "Far" not in named(statement.ordered(sources, [law], [], read={}))
@@ -234,8 +234,8 @@ def test_axioms(sources):
 
 
 def test_this_tree():
-    """In the text over this tree each name comes after what it names, once, and no name of the files' `use` is left out."""
-    whole = statement.Statement(Sources())
+    """In both texts over this tree each name comes after what it names, once, and no name of the files' `use` is left out."""
+    whole = statement.Statement(Sources(), [*statement.PARTS, axioms.BELOW])
     read = set()
     for thing in (each for part in whole.parts for each in part.things() if not whole.sources.is_trait(each)):
         assert thing not in read, thing
@@ -270,6 +270,14 @@ def test_unread():
         assert (process.returncode, told) == (0, ""), told
 
 
+def test_traits():
+    """Each trait of which clauses are assumed is printed in one of the two texts."""
+    programs = axioms.Programs(Sources(), axioms.crates_of(axioms.PROGRAMS))
+    printed = [trait.split(":")[1] for part in [*statement.PARTS, axioms.BELOW] for trait in part.traits]
+    assumed = {impl.trait for impl, _ in programs.devices() if programs.premise(impl) == axioms.UNKNOWN}
+    assert assumed and assumed <= set(printed), assumed - set(printed)
+
+
 def old_texts():
     """A line for each text in docs/ that isn't what its tool prints."""
     for name, tool in (("docs/STATEMENT.txt", statement), ("docs/AXIOMS.txt", axioms), ("NOTICES", notices)):
@@ -286,6 +294,7 @@ def main():
     test_this_tree()
     test_excuses()
     test_unread()
+    test_traits()
     faults = list(old_texts())
     print(*faults or ["docs/STATEMENT.txt, docs/AXIOMS.txt and NOTICES are what the sources say"], sep="\n")
     return 1 if faults else 0

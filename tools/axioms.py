@@ -1,7 +1,7 @@
 #!/usr/bin/env python3
 """Prints what the proofs of the programs trust, found in the sources: what is assumed of the devices of which nothing is
 known, the premises of the others, what else excuses a device, the code that no contract covers, the kit's crates, the
-handles and the toolchain.
+handles and the toolchain; and the traits of these devices that the statement doesn't print.
 
     python3 tools/axioms.py                   # the text, which is docs/AXIOMS.txt
 """
@@ -13,6 +13,7 @@ import textwrap
 from typing import NamedTuple
 
 from sources import TOP, Sources, print_whole, without_comments, words_of
+from statement import PARTS, Part, Statement
 
 sys.path.insert(0, str(TOP))
 
@@ -37,31 +38,43 @@ ASSUMED = """\
 1. Devices of which nothing is known: `sound`, their premise, is ⊥. The code over them is generic, and proved for each
    device that does what its trait says. So each clause of the trait that holds only where `sound` does is assumed of
    them. It is printed without the words `sound self.new → sound self.old ×` before it. docs/STATEMENT.txt has the
-   traits of fetching and what their names mean. What can't be opened may come to the folders and go at any
-   moment, so no clause says where such names (`closed_new`, `closed_cur`) come from. Of HostFolders it is assumed that
-   a listing shows exactly those that are there then (`ListsIn`): a message whose name is one isn't fetched. All that is
-   above HostFolders is proved to tell just these."""
+   traits Wire, MaildirDisk and FlatFile with what their names mean, and 9 has the others. What can't be opened may
+   come to the folders and go at any moment, so no clause says where such names (`closed_new`, `closed_cur`) come from.
+   Of HostFolders it is assumed that a listing shows exactly those that are there then (`ListsIn`): a message whose name
+   is one isn't fetched. All that is above HostFolders is proved to tell just these."""
 PREMISES = """\
 2. The premises of the other devices. What their traits say is proved, for one over another device as far as that one
    does what its trait says."""
 EXCUSED = """\
 3. What else excuses a device. No clause says when a call is refused, so each of these may always be: then what is above
-   does nothing more. What a device may put down to others is in the definitions named here."""
+   does nothing more. What a device may put down to others, or to what was so before, is in the definitions named here.
+   No clause says either when a folder didn't rest, or when a stem has no file: each of these answers may always come."""
 EXCUSES = {
     "Receives": "the other end has closed the link",
+    "doubted": "a flush of a file was refused before, after which none makes it durable",
+    "is_there": "a folder isn't there",
+    "Makes": "the place where files are made isn't there",
     "WereTaken": "mail readers took files away",
-    "Moved": "others moved, marked or took away files",
+    "Moved": "others moved, marked or took away files, or put what can't be opened beside them",
     "ToldAreOdd": "what can't be opened bears a name that is sought",
     "ShowsOdd": "what can't be opened bears a name that is sought",
     "TellsRest": "a folder didn't rest",
     "Flushes": "a stem has no file any more",
     "FlushesFiles": "a stem has no file any more",
+    "FailsReading": "memory ran out",
 }
 UNCOVERED = """\
 4. Code that no contract covers: the lines, without comments and empty ones, of functions that have no contract of
    their own, and of which no trait says anything, or only what 1 assumes. A clause that only counts refusals, or says
    which faults there are, or gives a bound, or speaks of a state of which nothing is known or that the `impl` leaves
    open, is no cover."""
+
+BELOW = Part("The other traits", """\
+9. The traits of which 1 assumes clauses, beside those in docs/STATEMENT.txt: of the folders over which the real Maildir
+   and files are made, and of a server's maildrop. Each name that docs/STATEMENT.txt doesn't have is explained before it
+   is used.""",
+             traits=("folder_store:NewFile", "folder_store:FolderState", "folder_store:FileFolder",
+                     "folder_store:MailFolders", "pop3_server:Maildrop"))
 
 
 class Function(NamedTuple):
@@ -280,8 +293,15 @@ def handles(programs):
     return [f"  {crate}: {', '.join(names)}" for crate, names in users.items()]
 
 
+def traits_below(sources):
+    """The traits with their definitions, as the statement would print them in a part after its last."""
+    statement = Statement(sources, [*PARTS, BELOW])
+    return statement.printed(statement.parts[-1].things())
+
+
 def text_of(top=TOP):
-    programs = Programs(Sources(top), crates_of(PROGRAMS))
+    sources = Sources(top)
+    programs = Programs(sources, crates_of(PROGRAMS))
     kit = subprocess.run(["rt", "version"], check=True, capture_output=True, text=True).stdout.strip()
     return "\n".join([
         f"What the proofs of {' and '.join(PROGRAMS)} trust, from the sources: `make axioms` prints this text.", "",
@@ -290,7 +310,8 @@ def text_of(top=TOP):
         "5. The kit's crates that each program is linked with, whose statements are trusted:", *kit_crates(), "",
         f"6. {(top / 'HANDLES').read_text().strip()} Functions that have one:", *handles(programs), "",
         f"7. Files with an axiom, a hole or unsafe code: {', '.join(programs.unproved()) or 'none'}.",
-        f"8. The toolchain: {kit}. The C library, LLVM and the operating system are trusted with it.", ""])
+        f"8. The toolchain: {kit}. The C library, LLVM and the operating system are trusted with it.", "",
+        BELOW.words, "", *traits_below(sources)])
 
 
 if __name__ == "__main__":

@@ -187,8 +187,10 @@ class Sources:
         lines = self.text(thing.crate, thing.file).splitlines()
         begins = re.compile(rf"pub (?:struct|enum|trait|const) {thing.name}\b")
         item = without_gaps(item_at(lines, next(at for at, line in enumerate(lines) if begins.match(line))))
-        value = self.value(thing)
-        return item if value is None else [*item, f"// contracts see it as {{{value}}}"]
+        if (value := self.value(thing)) is None:
+            return item
+        head = next(at for at, line in enumerate(item) if begins.match(line))
+        return [*item[:head], re.sub(r" \{$|\(.*", "", item[head]) + f" // contracts see it as {value.strip()}"]
 
     def members(self, thing):
         """The fields or variants that a type of the sources has, each with its lines, comments before it included; none if
@@ -209,8 +211,7 @@ class Sources:
         first = next(at for at, line in enumerate(lines) if MEMBERS.match(line))
         shown = [line for name, each in members.items() if name in read for line in on_one_line(each)]
         others = sum(name not in read for name in members)
-        more = [f"    // and {others} more, of which nothing here speaks"] if others else []
-        return [*lines[:first + 1], *shown, *more, lines[-1]]
+        return [*lines[:first + 1], *shown, lines[-1] + (f" // and {others} more" if others else "")]
 
     def read_in(self, thing, lines):
         """The names of fields that lines read or set, and the variants that they name, each with its type."""

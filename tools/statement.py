@@ -37,9 +37,8 @@ The contract by which a call of `session` is one that these laws speak of; and t
          laws=("fetch_record:files_stand_for_one_record",), calls=("fetch_session:promised_session",)),
     Part("The devices", """\
 What each call of a device does while its `sound` holds: of a link, a Maildir and a file, over which calls of `session` are
-made; then of the folders over which the real Maildir and files are made.""",
-         traits=("pop3_wire:Wire", "mail_store:MaildirDisk", "mail_store:FlatFile", "folder_store:NewFile",
-                 "folder_store:FolderState", "folder_store:FileFolder", "folder_store:MailFolders")),
+made. docs/AXIOMS.txt has the traits of the folders over which the real ones are made.""",
+         traits=("pop3_wire:Wire", "mail_store:MaildirDisk", "mail_store:FlatFile")),
     Part("Kills", """\
 What 1 and 2 say holds over a link and devices of which each refuses all calls from some call on. Each call of `FusedWire` does
 what `BurnsForLink` says, and each of `Fused` what `Fuses` says.""",
@@ -66,9 +65,10 @@ QUOTED = "fetch_runs:headline"
 
 INTRODUCTION = """\
 What is proved of fetching, from the sources: `make statement` prints this text. Each name is explained before it is
-used, except those of the standard library and of the kit's crates. docs/HEADLINE.md says how to read it. Each part needs
-only those before it, of which part 1 is the longest."""
-NOT_OPENED = "-- (what it is made of is left out: docs/HEADLINE.md says why)"
+used, except those of the standard library and of the kit's crates. docs/HEADLINE.md says how to read it, and why nobody has
+to open the three definitions that end at their type. Of a type of the sources the text has those fields and variants alone of
+which it speaks. Each part needs only those before it, of which part 1 is the longest. docs/AXIOMS.txt has what is trusted of
+the real sockets, folders and files, in the same way, with the traits that are below those of part 4."""
 
 
 def ordered(sources, roots, known, unopened=(), read=None):
@@ -140,14 +140,14 @@ def specs_thing(name):
 
 
 class Statement:
-    """What the text is made of, each part in the order in which it is read."""
+    """What a text of such parts is made of, each in the order in which it is read."""
 
-    def __init__(self, sources):
+    def __init__(self, sources, parts=PARTS):
         self.sources, self.read = sources, {}
         self.unopened = [specs_thing(name) for name in UNOPENED]
         while True:
             known = []
-            self.parts = [Found(sources, part, known, self.unopened, self.read) for part in PARTS]
+            self.parts = [Found(sources, part, known, self.unopened, self.read) for part in parts]
             if (read := self.read_by()) == self.read:
                 break
             self.read = read
@@ -177,7 +177,7 @@ class Statement:
 
     def lines(self, thing):
         if thing in self.unopened:
-            return [*self.sources.type_lines(thing), NOT_OPENED]
+            return self.sources.type_lines(thing)
         if thing.file.startswith("specs/") or self.sources.is_trait(thing):
             return self.sources.lines(thing)
         return self.sources.lines_read(thing, self.read.get(thing, set()))
