@@ -1,4 +1,4 @@
--- Kills: what a link and devices are behind a fuse that lets no call pass any more.
+-- Kills: what a link and devices are behind a fuse that lets no call pass any more; and progress of calls over such.
 use Rattle.std.specs.Prelude.{◌<◌, ℕ, false}
 use Rattle.mail_terms.specs.FailureCount.{greatest_count}
 use Rattle.mail_store.specs.declared.{
@@ -7,6 +7,11 @@ use Rattle.mail_store.specs.declared.{
 }
 use Rattle.pop3_wire.specs.{declared.wire.Wire.Ghosts as WireGhosts}
 use Rattle.test_devices.specs.{LinkFuse.Fuse, declared.fused.Fused.Fused}
+use Rattle.fetch_runs.specs.Progress.{CallsGetFar, MboxCallsGetFar}
+
+-- a law: calls get far with a Maildir, and with an mboxrd file
+abbrev pub AllGetFar : {W D F : Type 0} → WireGhosts W → DiskGhosts D → FileGhosts F → Type 0
+AllGetFar link disk file = CallsGetFar link disk file × MboxCallsGetFar link disk file
 
 -- no call passes any more, and so many were refused
 abbrev pub blown_link : {W : Type 0} → W → ℕ → Fuse W

@@ -2,13 +2,12 @@
 ghost use Rattle.fetch_runs.specs.{
   Calls.{CallsKeepPromises, MboxCallsKeepPromises},
   Headline.{Headline, MboxHeadline},
-  Progress.{CallsGetFar, MboxCallsGetFar},
 };
 ghost use Rattle.local_fetch.specs.{
   Fetches.{FetchesFromNothing, FetchesKeepPromises, FirstFetchesKeepMail, MboxFetchesFromNothing},
   Fetches.{MboxFetchesKeepPromises, MboxFirstFetchesKeepMail},
   Good.{GoodFetchesStoreAll, OneIsStored},
-  Kills.KillsHappen,
+  Kills.{AllGetFar, KillsHappen},
   Losses.{BytesAreTaken, LossesHappen, MboxLossesHappen, NamesAreTaken},
   Moves.MailIsMoved,
 };
@@ -40,10 +39,7 @@ pub fn killed_calls_keep_promises<W: Wire, D: MaildirDisk, F: FlatFile>()
     ensures in_order { Headline ⟦<FusedWire<W> as Wire>⟧ ⟦<Fused<D> as MaildirDisk>⟧ ⟦<Fused<F> as FlatFile>⟧ }
     ensures mbox_in_order { MboxHeadline ⟦<FusedWire<W> as Wire>⟧ ⟦<Fused<D> as MaildirDisk>⟧
         ⟦<Fused<F> as FlatFile>⟧ }
-    ensures progress { CallsGetFar ⟦<FusedWire<W> as Wire>⟧ ⟦<Fused<D> as MaildirDisk>⟧
-        ⟦<Fused<F> as FlatFile>⟧ }
-    ensures mbox_progress { MboxCallsGetFar ⟦<FusedWire<W> as Wire>⟧ ⟦<Fused<D> as MaildirDisk>⟧
-        ⟦<Fused<F> as FlatFile>⟧ }
+    ensures progress { AllGetFar ⟦<FusedWire<W> as Wire>⟧ ⟦<Fused<D> as MaildirDisk>⟧ ⟦<Fused<F> as FlatFile>⟧ }
     ensures happen { KillsHappen W.Wire D.MaildirDisk F.FlatFile ⟦<FusedWire<W> as Wire>⟧
         ⟦<Fused<D> as MaildirDisk>⟧ ⟦<Fused<F> as FlatFile>⟧ }
 {
