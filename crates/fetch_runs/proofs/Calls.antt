@@ -2,7 +2,7 @@
 -- what is promised of any list, and the order of the maildrops, give the headlines.
 use Rattle.std.{
   proofs.Common.{◌≡◌, ◌⊎◌, inl, inr, ℕ, true, List, [], ◌∷◌, ◌++◌, refl, sym, ap, subst, ◌∙◌, arith, length, false, Bool, length-append},
-  proofs.Common.{◌||◌, ◌&&◌, map, not, append_assoc, bytes_eq},
+  proofs.Common.{◌||◌, ◌&&◌, map, not, append_assoc, bytes_eq, Option},
   proofs.Math.Logic.⊎_elim,
   proofs.lemmas.{Slice.Eq.bytes_eq-Decides, List.{append-nil, append_cancel_left, Folds.flat_map-map}},
   proofs.lemmas.Bool.{both_ways, false_from_ne_true, or_left, cases_Bool},
@@ -30,7 +30,7 @@ use Rattle.fetch_runs.{
   specs.Promises.{Stands, is_entered},
   specs.Promises.{ComesFor, IsFront, IsTextOf, ShowsNext, is_safe, IsMboxFront},
   specs.{Sessions.{SessionOverLink, MboxMail, entries_of}, Below.Below},
-  specs.Losses.{IsFileLeft, IsMboxSafe, KeepsRecorded, ShowsAll, TrustsMbox, TrustsRecord},
+  specs.Losses.{IsCrashSafe, IsFileLeft, IsMboxSafe, KeepsRecorded, ShowsAll, TrustsMbox, TrustsRecord},
   specs.Calls.{Called, CallsKeepPromises, EmptyAccountsHold, Left, Lost, with_left, IsCall, Shows, DurableMboxesAreSafe},
   specs.Calls.MboxCallsKeepPromises,
   specs.Calls.{BeginsWithEntries, KeepsEntries, ShowsMbox},
@@ -38,8 +38,8 @@ use Rattle.fetch_runs.{
   specs.Headline.{EntriesMeanTexts, world_without, Headline, MboxHeadline, HoldsAMboxPrefix, IsUnbegun},
   proofs.{LeftRecords.{LeavesDurably, leaves_durably}, MboxLeft.{Holds, may_seen, session_left}, Recorded.keeps_recorded},
   proofs.Safety.texts_stand,
-  proofs.Losses.{all_left_durable, calls_keep_order, calls_keep_safe, durable_is_safe, left_keeps_front, left_keeps_safe, others_keep_safe},
-  proofs.Losses.{losses_keep_order, losses_leave_kept, others_keep_order, front_stays, left_front},
+  proofs.Losses.{RecordIsDurable, all_left_durable, calls_keep_order, calls_keep_safe, durable_is_safe, left_keeps_front, left_keeps_safe},
+  proofs.Losses.{losses_keep_order, losses_leave_kept, others_keep_order, others_keep_safe, front_stays, left_front},
   proofs.Lists.{left_or_none, all_filter, all_ids_at, all_map, all_front, are_distinct, distinct_filter, distinct_is, front_is, is_some},
   proofs.Lists.{Distinct, no_texts, all_at, bytes_self, other_id, ids_both, all_mapped, none_or_one, same_held},
   proofs.{MboxPromised.{appends, starts, ends_whole, open_row}, Steps.{mbox_sessions_lose_nothing, sessions_lose_nothing}},
@@ -48,7 +48,7 @@ use Rattle.fetch_runs.{
   proofs.Core.{AreLegal, next_here, prefix_left, done_legal, done_distinct},
 }
 use Rattle.mail_terms.specs.{UniqueId.{is_legal_id, has_id}, Text.IsWhole}
-use Rattle.fetch_record.specs.Record.{is_delivered}
+use Rattle.fetch_record.specs.{Record.{Intent, is_delivered}, RecordMeaning.FileStandsFor}
 use Rattle.rc_file.specs.declared.settings.Settings.{Settings}
 
 -- ---- with a Maildir
@@ -119,9 +119,16 @@ left_between mail state left kept taken = record {
   shows_no_more = λ _ d. d;
 }
 
+-- what the record shows may be left
+record_durable : {F : Type 0} (file : FileGhosts F) (f : F) → seen_on (file.disk f) ≡ (file.stored f).content → (mail : Mail)
+    (state : State) (intent : Option Intent) → FileStandsFor (file.stored f).content state.account.rows intent
+    → IsCrashSafe (file.disk f) mail state → RecordIsDurable mail state
+record_durable file f seen _ state intent stands safe id d =
+    (safe.left (file.stored f).content state.account.rows intent (may_seen file f seen) stands id d).1
+
 pub calls_keep_promises : Below → {W D F : Type 0} (link : WireGhosts W) (disk : DiskGhosts D) (file : FileGhosts F)
-    → CallsKeepPromises link disk file
-calls_keep_promises laws {W} {D} {F} link disk file = keep
+    → ((f : F) → seen_on (file.disk f) ≡ (file.stored f).content) → CallsKeepPromises link disk file
+calls_keep_promises laws {W} {D} {F} link disk file seen = keep
   where
     own : (account : List ℕ) → IsAccountText account → (m : Message) → names_id account m.uid (name_of account m.uid (length m.text)) ≡ true
     own account text m = (bytes_eq-Decides (stem_of account m.uid) _).1 (sym (laws.stems account m.uid (length m.text) text))
@@ -147,9 +154,12 @@ calls_keep_promises laws {W} {D} {F} link disk file = keep
               shows = it.shows;
               taken_is = it.taken_is;
               promises = done.0;
-              safe = λ trust safe. calls_keep_safe laws file devices.file call.after.file mail
-                  (with_left mail state it.left) call it.sent it.after here it.session
-                  it.leaves trust (left_keeps_safe (file.disk devices.file) mail state it.left kept it.taken safe);
+              safe = λ trust safe.
+                  let safe' = left_keeps_safe (file.disk devices.file) mail state it.left kept it.taken safe in
+                  let recorded = record_durable file devices.file (seen devices.file) mail (with_left mail state it.left)
+                  shows.intent shows.record_is safe' in
+                  calls_keep_safe laws file devices.file call.after.file mail
+                  (with_left mail state it.left) call it.sent it.after here it.session it.leaves trust recorded safe';
               keeps = λ trust. it.keeps trust done.0.recorded;
               in_order = λ all legal front next clear. calls_keep_order mail (own mail.account account) file devices.file
                   call.after.file (with_left mail state it.left) call it.sent it.after done.0 it.leaves all legal
@@ -163,7 +173,8 @@ calls_keep_promises laws {W} {D} {F} link disk file = keep
       kept,
       λ then between. (
         λ keeps. (
-          λ safe. others_keep_safe laws file devices.file left.file mail state account then.intent kept then.record_is between keeps safe,
+          λ safe. others_keep_safe laws file devices.file left.file mail state account then.intent kept then.record_is between keeps
+              (record_durable file devices.file (seen devices.file) mail state shows.intent shows.record_is safe) safe,
           λ back all legal front. others_keep_order file devices.file left.file mail state account keeps back all legal front,
         ),
         keep mail (state_with mail state [] account) left later then (others_leave_kept mail state account kept between),

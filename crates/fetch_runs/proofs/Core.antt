@@ -16,6 +16,7 @@ use Rattle.rc_file.specs.declared.settings.Settings.{Settings}
 use Rattle.mail_store.specs.{Maildir.{File, Maildir}, FileName.{is_held, mail_file}}
 use Rattle.fetch_runs.{
   specs.Accounts.{message_ids, item_of, listing_of, is_selected, selected, without, AccountMail},
+  specs.Promises.may_fetch,
   specs.Sessions.{AreTexts, file_for, is_unheld, Effect, IsHonest, ids_wanted, StoresTexts, MboxMail, MboxStores},
   proofs.Lists.{filter-map, filter-swap, any_map, all_append, all_map, all_take, all_filter, Distinct, are_distinct, front_is, filter_all},
   proofs.Lists.{filter-filter, all_both, all_passing, all_front, distinct_is, distinct_take, distinct_filter, ids_both, all_at, all_ids_at},
@@ -31,10 +32,6 @@ has_listed ms e id = rw e (any_map (λ (i : Item). bytes_eq id i.uid) item_of ms
 
 abbrev pub num_item : ℕ × Message → ℕ × Item
 num_item q = (q.0, item_of q.1)
-
--- whether a session may fetch a message, if it met such odd names and knows such ids
-abbrev pub may_fetch : Settings → (odd known : List ℕ → Bool) → Message → Bool
-may_fetch settings is_odd is_known m = is_none (own_skip settings (is_odd m.uid) is_known m.uid m.size)
 
 abbrev pub asked : Settings → (List ℕ → Bool) → List Row → Message → Bool
 asked settings is_odd rows = may_fetch settings is_odd (is_delivered rows)
@@ -66,11 +63,15 @@ module _ (settings : Settings) (is_odd : List ℕ → Bool) (rows : List Row) wh
       → wanted settings is_odd rows listing ≡ map num_item (wants_by_number settings is_odd rows ms)
   wanted_are firsts ms e d =
       rw e (firsts settings is_odd rows (listing_of ms) (rw map-map (are_distinct (message_ids ms) d))
-      ∙ ap (at_most settings (λ q. q.1.size)) (ap (filter may) (enumerated 1 ms) ∙ filter-map may num_item (enumerate_from 1 ms))
+      ∙ ap (at_most settings (λ q. q.1.size)) (ap (filter may) (enumerated 1 ms) ∙ filter-map may num_item (enumerate_from 1 ms)
+      ∙ ap (λ (p : ℕ × Message → Bool). map num_item (filter p (enumerate_from 1 ms))) passes)
       ∙ at_most-map num_item settings (λ q. q.1.size) (offered_by_number settings is_odd rows ms))
     where
       may : ℕ × Item → Bool
       may message = is_none (own_skip settings (is_odd message.1.uid) (is_delivered rows) message.1.uid message.1.size)
+
+      passes : ◌≡◌ {A = ℕ × Message → Bool} (λ q. may (num_item q)) (λ q. asked settings is_odd rows q.1)
+      passes = λ i q. own_passes settings (is_odd q.1.uid) (is_delivered rows) q.1.uid q.1.size i
 
       enumerated : (n : ℕ) (ms : List Message) → enumerate_from n (listing_of ms) ≡ map num_item (enumerate_from n ms)
       enumerated n [] = refl
@@ -256,7 +257,7 @@ module _ {settings : Settings} {is_odd : List ℕ → Bool} {rows : List Row} {d
   -- if only what is new is read, no message that is wanted is recorded
   pub none_recorded : settings.read_all ≡ false → AllByRecursion (λ (m : Message). is_delivered rows m.uid ≡ false) ws
   none_recorded only_new = all_take _ _ _ (all_map _ (all_passing (asked settings is_odd rows) drop')
-      (λ m a. grind (arith, sym (own_passes settings (is_odd m.uid) (is_delivered rows) m.uid m.size) ∙ a, only_new)))
+      (λ m a. grind (arith, a, only_new)))
 
   -- ---- numbers and texts
 
@@ -346,7 +347,6 @@ module _ {settings : Settings} {is_odd : List ℕ → Bool} {rows : List Row} {d
       arith,
       h.0,
       clear m.uid,
-      own_passes settings (is_odd m.uid) (is_delivered rows) m.uid m.size,
       undone_offered ms h.1,
     )
 

@@ -147,14 +147,17 @@ durable_on mail state after id stays = durable_bits _ _ (state.taken id) _ _
 
 -- ---- others, and readers
 
+-- what the record shows as delivered is durable
+abbrev pub RecordIsDurable : Mail → State → Type 0
+RecordIsDurable mail state = (id : List ℕ) → is_delivered state.account.rows id ≡ true → is_durable mail state id ≡ true
+
 pub others_keep_safe : Below → {F : Type 0} (file : FileGhosts F) (from f : F) (mail : Mail) (state : State) (after : AccountMail)
     (intent : Option Intent) → Invariant mail state
     → FileStandsFor (file.stored f).content after.rows intent → IsBetween mail state.account after
-    → KeepsDurable file mail.account state.account from f after
+    → KeepsDurable file mail.account state.account from f after → RecordIsDurable mail state
     → IsCrashSafe (file.disk from) mail state → IsCrashSafe (file.disk f) mail (state_with mail state [] after)
-others_keep_safe laws file from f mail state after intent kept stands between keeps safe = record {
+others_keep_safe laws file from f mail state after intent kept stands between keeps recorded safe = record {
   flushed = keeps.flushed;
-  recorded = shown;
   left = λ left rows opened may is id d. elim (keeps.record_is left may) [
     | inl same ↦
         let d' = rw (same_rows laws.one (file.stored f).content rows after.rows (opened, rw same at is) (intent, stands)) at d in
@@ -169,7 +172,7 @@ others_keep_safe laws file from f mail state after intent kept stands between ke
     on id legal = durable_on mail state after id (keeps.named id legal)
 
     shown : (id : List ℕ) → is_delivered after.rows id ≡ true → is_durable mail (state_with mail state [] after) id ≡ true
-    shown id d = let was = between.shows_no_more id d in on id (kept.recorded id was).0 (safe.recorded id was)
+    shown id d = let was = between.shows_no_more id d in on id (kept.recorded id was).0 (recorded id was)
 
 module _ (mail : Mail) (state : State) (left : Maildir) (kept : Invariant mail state) (taken : WereTaken state.account.maildir left) where
   pub durable_after : (id : List ℕ) → is_legal_id id ≡ true → is_durable mail state id ≡ true
@@ -191,7 +194,6 @@ pub left_keeps_safe : (disk : Disk) (mail : Mail) (state : State) (left : Maildi
     → IsCrashSafe disk mail state → IsCrashSafe disk mail (with_left mail state left)
 left_keeps_safe _ mail state left kept taken safe = record {
   flushed = flushed_stays mail.account taken.gone state.account.maildir.files left.files taken.files safe.flushed;
-  recorded = λ id d. on id (kept.recorded id d).0 (safe.recorded id d);
   left = λ bytes rows opened may is id d. let was = safe.left bytes rows opened may is id d in (was.0, on id was.0 was.1);
   gone = all_both state.gone kept.gone safe.gone (λ id is. on id is.0);
 }
@@ -223,14 +225,14 @@ module _ {F : Type 0} (file : FileGhosts F) (from f : F) (mail : Mail) (state : 
 pub calls_keep_safe : Below → {W S F G : Type 0} (file : FileGhosts F) (from f : F) (mail : Mail) (state : State) (call : Call W S G)
     (sent : List ℕ) (now : AccountMail) → Invariant mail state
     → IsSession mail state.account call sent now → LeavesDurably file mail.account from f state.account now → TrustsRecord file from f
+    → RecordIsDurable mail state
     → IsCrashSafe (file.disk from) mail state → IsCrashSafe (file.disk f) mail (state_with mail state call.vanished now)
-calls_keep_safe laws file from f mail state call sent now kept is leaves trust safe = record {
+calls_keep_safe laws file from f mail state call sent now kept is leaves trust recorded safe = record {
   flushed = flushed_after;
-  recorded = shown;
   left = λ left rows opened may stands id d. (
     kept_legal left rows (opened, stands) id d,
     elim (leaves.left trust left rows opened may stands id d) [
-      | inl was ↦ on id (safe.recorded id was)
+      | inl was ↦ on id (recorded id was)
       | inr (inl named) ↦ or_left _ _ named
       | inr (inr could) ↦ on id (safe.left left rows opened could stands id d).1
     ],
@@ -259,7 +261,7 @@ calls_keep_safe laws file from f mail state call sent now kept is leaves trust s
     on = durable_call file from f mail state call.vanished now leaves
 
     shown : (id : List ℕ) → is_delivered now.rows id ≡ true → is_durable mail after id ≡ true
-    shown id d = ⊎_elim (λ was. on id (safe.recorded id was)) (or_left _ _) (leaves.shown id d)
+    shown id d = ⊎_elim (λ was. on id (recorded id was)) (or_left _ _) (leaves.shown id d)
 
 -- ---- a loss of power
 
@@ -301,7 +303,6 @@ losses_leave_kept disk mail state after left intent kept safe loses may stands =
 pub durable_is_safe : Below → {F : Type 0} (file : FileGhosts F) → DurableAccountsAreSafe file
 durable_is_safe laws file f mail state intent kept stands durable same = record {
   flushed = all_map state.account.maildir.files durable (λ g is id legal names. (is id legal names).1);
-  recorded = λ id d. let is = kept.recorded id d in on id is.0 is.1;
   left = λ left rows opened may is id d.
       let here = kept.recorded id (rw (same_rows laws.one (file.stored f).content rows state.account.rows (opened, rw (same left may) at is)
       (intent, stands)) at d) in (here.0, on id here.0 here.1);

@@ -3,7 +3,7 @@ use Rattle.std.{
   proofs.Common.{subst, not, length, None, Option, Some, map, ◌⊎◌, slice_get, zero, ◌≡◌, inl, inr, ℕ, List, [], ◌∷◌, ◌++◌, true, false, ap},
   proofs.Common.{refl, sym, ◌∙◌, suc, ◌||◌, take, arith, append_assoc},
   proofs.lemmas.{Bool.{both_ways, false_from_ne_true, or_left, or_right, or_parts}, Grind.flat_map-append, Option.same_Some},
-  proofs.lemmas.List.{append-nil, map-append, take_all, Folds.flat_map-map},
+  proofs.lemmas.List.{append-nil, append_cancel_left, map-append, take_all, Folds.flat_map-map},
   proofs.Math.{Bool.{or-false, or_assoc}, Logic.{⊎_elim, ⊎_map}},
   specs.{Prelude.{bytes_eq, ◌↔◌}, List.{AllByRecursion, count_by, filter}},
 }
@@ -13,8 +13,8 @@ use Rattle.fetch_runs.{
   specs.Sessions.{AreTexts, Effect, IsHonest, SendsOnly, IsBegun, Served, is_retr, MboxMail, settled, mbox_rows, mbox_wanted, entries},
   specs.Sessions.{IsBroken, MboxLeaves, MboxStores, entries_of, MboxSessionOverLink},
   specs.{Accounts.message_ids, Below.Below},
-  specs.Promises.{IsOf, IsMaildrop, ShowsNext, Call, Base, is_entered, IsOpenFor, Stands, HoldsEntries, IsMboxFront, MboxPromises},
-  specs.Promises.{MboxStarts, AppendsMail, IsTextOf},
+  specs.Promises.{IsOf, IsMaildrop, ShowsNext, Call, Base, is_entered, IsOpenFor, Stands, HoldsEntries, IsMboxFront, MboxStarts},
+  specs.Promises.{AppendsMail, DeletesOneOf, FetchesWanted, IsTextOf},
   proofs.{Promised.sends_such, Safety.mbox_served_session},
   proofs.Core.{BeginsWith, next_in, added, added_begins, prefix_after, all_added, parts_apart, IsNumbered, num_item, Fetch, all_wanted, qs},
   proofs.Core.{distinct_wanted, fetches_wanted, wanted_is, taken_is, texts_are, wanted_ids, none_recorded, wants, wants_placed, has_listed},
@@ -96,6 +96,18 @@ next_less limit done n (m ∷ ms) = grind (arith, ids_both, next_less limit done
 -- what holds of what stands on the right
 of_right : {A B : Type 0} (P : B → Type 0) {both : A ⊎ B} {a b : B} → both ≡ inr a → P a → both ≡ inr b → P b
 of_right P {a = a} {b = b} is holds other = let same : a ≡ b = cc in subst P same holds
+
+-- what a call promises that leaves these entries
+record Keeps {W S F : Type 0} (base : Base) (before done : List Message) (call : Call W S F) (sent : List ℕ) (after : MboxMail)
+    : Type 0 where
+  pub closed : call.report.outcome ≡ Ended → after.intent ≡ None
+  pub found : List Message
+  pub fetched : call.report.outcome ≡ Ended → (texts : List Message) × (done ≡ (before ++ found) ++ texts)
+      × (length texts ≡ call.report.retrieved)
+  pub wanted : FetchesWanted call (λ id. false) (is_entered base (before ++ found)) (λ m. is_entered base done m.uid ≡ true)
+  pub deletes : SendsOnly (DeletesOneOf call.maildrop (λ id. is_entered base done id ≡ true)) sent
+  pub retrieved : call.report.outcome ≡ Ended → call.report.retrieved ≡ count_by is_retr deletes.commands
+  pub vanished : AllByRecursion (λ id. is_entered base done id ≡ true) call.vanished
 
 -- ---- a state with the invariant
 
@@ -399,10 +411,9 @@ module _ (base : Base) where
       promises_after : (did.ended ≡ true) ↔ (v.report.outcome ≡ Ended)
           → {sent : List ℕ} (sends : SendsOnly (IsBegun did.listing did.begun) sent)
           → (did.ended ≡ true → v.report.retrieved ≡ count_by is_retr sends.commands)
-          → AllByRecursion (λ id. has_id did.begun id ≡ true) v.vanished → MboxPromises base done done_now v sent now
+          → AllByRecursion (λ id. has_id did.begun id ≡ true) v.vanished → Keeps base done done_now v sent now
       promises_after ended sends retrieves vanished = record {
         closed = λ uncut. (s.ended (ended.1 uncut)).1;
-        whole = λ uncut. ends_whole done_now now holds_after (s.ended (ended.1 uncut)).1;
         found = origin.0;
         fetched = λ uncut. let all = (s.ended (ended.1 uncut)).0 in (
           new s.stored,
@@ -496,7 +507,7 @@ module _ (base : Base) where
     module _ {W S F : Type 0} (v : Call W S F) (sent : List ℕ) (after : MboxMail) where
       -- what it leaves, with the entries of these messages
       abbrev Leaves : List Message → Type 0
-      Leaves now = (holds : HoldsEntries base now after) × MboxPromises base done now v sent after
+      Leaves now = (holds : HoldsEntries base now after) × Keeps base done now v sent after
           × ((all : List Message) → (front : IsMboxFront base kept all)
           → ShowsNext v.settings v.maildrop (front.first ++ done) front.rest → IsMboxFront base holds all)
           × ((o : IsOpenFor base (bytes_of now) after) → holds.stands ≡ inr o → IsPart after o.next o.part)
@@ -511,7 +522,6 @@ module _ (base : Base) where
               left_kept after effect left,
               record {
                 closed = λ uncut. absurd (both_ways effect.ended left.ended (session.ended.1 uncut));
-                whole = λ uncut. absurd (both_ways effect.ended left.ended (session.ended.1 uncut));
                 found = [];
                 fetched = λ uncut. absurd (both_ways effect.ended left.ended (session.ended.1 uncut));
                 wanted = λ uncut. absurd (both_ways effect.ended left.ended (session.ended.1 uncut));
@@ -535,10 +545,20 @@ module _ (base : Base) where
           ]
         where
           by : (more : List Message) → Leaves (done ++ more) → AppendsMail base kept v sent after
-          by more (holds, promises, in_order, part) = record {
+          by more (holds, keeps, in_order, part) = record {
             more = more;
-            promises = promises;
             kept = holds;
+            closed = keeps.closed;
+            found = keeps.found;
+            fetched = λ uncut. let (texts, is, count) = keeps.fetched uncut in (
+              texts,
+              append_cancel_left done more (keeps.found ++ texts) (is ∙ append_assoc done keeps.found texts),
+              count,
+            );
+            wanted = keeps.wanted;
+            deletes = keeps.deletes;
+            retrieved = keeps.retrieved;
+            vanished = keeps.vanished;
             part = part;
             in_order = in_order;
           }

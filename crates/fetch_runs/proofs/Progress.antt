@@ -10,7 +10,7 @@ use Rattle.std.{
 use Rattle.pop3_wire.specs.{declared.wire.Wire.Ghosts as WireGhosts, World.Message}
 use Rattle.mail_terms.specs.UniqueId.{has_id}
 use Rattle.rc_file.specs.declared.settings.Settings.{Settings}
-use Rattle.fetch_rules.{specs.Wanted.{at_most, fitting}, proofs.PlanLemmas.own_passes}
+use Rattle.fetch_rules.specs.Wanted.{at_most, fitting}
 use Rattle.fetch_record.specs.{Record.{Intent, Row, is_delivered}, RecordMeaning.FileStandsFor}
 use Rattle.mail_store.specs.{
   Durable.Disk,
@@ -22,9 +22,9 @@ use Rattle.fetch_runs.{
   specs.{Accounts.{is_selected}, Below.Below, Losses.{IsFileLeft, KeepsRecorded}},
   proofs.Calls.entered_more,
   specs.Calls.{Called, CallsKeepPromises, Left, Lost, MboxCallsKeepPromises},
-  specs.Promises.{Call, FetchesWanted},
+  specs.Promises.{Call, FetchesWanted, may_fetch},
   specs.Progress.{Aim, CallsGetFar, CountsOn, HasCome, IsFar, IsTowards, MboxCallsGetFar, aimed, count_done, share, uncut_after},
-  proofs.Core.{may_fetch, message_size},
+  proofs.Core.message_size,
   proofs.Lists.{all_back, all_filter, all_front, all_ids_at, all_map, all_take, filter-filter, filter-swap, same_rows},
 }
 
@@ -109,8 +109,7 @@ offered_are limit settings is_odd known size only_new clear (m ∷ ms) =
     swapped false false = refl
 
     same : may_fetch settings is_odd known m ≡ (is_selected limit m && not (known m.uid))
-    same = own_passes settings (is_odd m.uid) known m.uid m.size
-        ∙ rw (only_new, clear m.uid, size) (swapped (known m.uid) (is_selected limit m))
+    same = rw (only_new, clear m.uid, size) (swapped (known m.uid) (is_selected limit m))
 
 -- of messages that are known none is among those that aren't
 still_unknown : (p q : Message → Bool) → ((m : Message) → p m ≡ true → q m ≡ true) → (ms : List Message)
@@ -332,9 +331,9 @@ get_mbox_far laws link disk file law = go
               let (sent, after, _, shows', appends, _, keeps, _) = then towards.only_new is in
               let stays : (id : List ℕ) → is_delivered account.rows id ≡ true → is_delivered after.rows id ≡ true =
               λ id recorded. appends.kept.recorded id ∙ entered_more base done appends.more id (sym (holds'.recorded id) ∙ recorded) in
-              let far = gets_far aim call calls (λ id. false) towards (λ id. refl) appends.promises.wanted
+              let far = gets_far aim call calls (λ id. false) towards (λ id. refl) appends.wanted
               (λ m entered. appends.kept.recorded m.uid ∙ entered)
-              (λ id recorded. entered_more base done appends.promises.found id (sym (holds'.recorded id) ∙ recorded)) stays come.far in (
+              (λ id recorded. entered_more base done appends.found id (sym (holds'.recorded id) ∙ recorded)) stays come.far in (
                 sent,
                 after,
                 appends,

@@ -161,9 +161,9 @@ pub record KeepsEntries (base : Base) (done : List Message) (bytes : List ℕ) :
   pub same : (id : List ℕ) → has_id (message_ids kept) id ≡ has_id (message_ids done) id
   pub begins : BeginsWithEntries base kept bytes
 
--- the devices show an account whose file holds these entries; if the next of these happens, a call that reads only what
--- is new appends entries, and they do so after it, and after others, who leave entries after some bytes, as each file
--- has without an open intent (`mbox_starts`); and a loss of power, if whatever it might leave holds entries, keeps all
+-- the devices show an account whose file holds these entries, and they do so after a call that reads only what is new,
+-- after others, who leave entries after some bytes (see `mbox_starts`), and after a loss of power, if all that it may
+-- leave does so
 abbrev pub AreMboxPromised : {W D F : Type 0} → WireGhosts W → DiskGhosts D → FileGhosts F → Base → List Message
     → MboxMail → Devices F F → List (Happening (Call W F F) (Devices F F) MboxMail) → Type 0
 AreMboxPromised link disk file base done account devices [] =

@@ -33,24 +33,22 @@ IsFlushedFor account f = (id : List ℕ) → is_legal_id id ≡ true → names_i
 abbrev pub IsDurableFor : List ℕ → File → Type 0
 IsDurableFor account f = (id : List ℕ) → is_legal_id id ≡ true → names_id account id f.name ≡ true → IsDurableFile f
 
--- what the record shows as delivered, or may show after a loss of power, and what is gone from the server, has a file
--- whose name is durable, or was taken away; and the bytes of the account's files are durable
+-- this holds of the rows that whatever a loss of power may leave of the record's file stands for
+abbrev pub LeavesRows : Disk → (List Row → Type 0) → Type 0
+LeavesRows disk Is = (left : Option (List ℕ)) (rows : List Row) (intent : Option Intent) → MayLeave disk left
+    → FileStandsFor left rows intent → Is rows
+
+-- what a record that a loss of power may leave shows as delivered, and what is gone from the server, has a file whose
+-- name is durable, or was taken away; and the bytes of the account's files are durable
 pub record IsCrashSafe (disk : Disk) (mail : Mail) (state : State) : Type 0 where
   pub flushed : AllByRecursion (IsFlushedFor mail.account) state.account.maildir.files
-  pub recorded : (id : List ℕ) → is_delivered state.account.rows id ≡ true → is_durable mail state id ≡ true
-  pub left : (bytes : Option (List ℕ)) (rows : List Row) (intent : Option Intent) → MayLeave disk bytes
-      → FileStandsFor bytes rows intent
-      → (id : List ℕ) → is_delivered rows id ≡ true → (is_legal_id id ≡ true) × (is_durable mail state id ≡ true)
+  pub left : LeavesRows disk (λ rows. (id : List ℕ) → is_delivered rows id ≡ true
+      → (is_legal_id id ≡ true) × (is_durable mail state id ≡ true))
   pub gone : AllByRecursion (λ id. is_durable mail state id ≡ true) state.gone
 
 -- these rows show what those show as delivered
 abbrev pub ShowsAll : List Row → List Row → Type 0
 ShowsAll was rows = (id : List ℕ) → is_delivered was id ≡ true → is_delivered rows id ≡ true
-
--- this holds of the rows that whatever a loss of power may leave of the record's file stands for
-abbrev pub LeavesRows : Disk → (List Row → Type 0) → Type 0
-LeavesRows disk Is = (left : Option (List ℕ)) (rows : List Row) (intent : Option Intent) → MayLeave disk left
-    → FileStandsFor left rows intent → Is rows
 
 -- whatever may be left of the record's file after a call could be left before, or shows what the record showed. If the
 -- call was uncut, the record is as it was, or whatever may be left shows all that it shows
@@ -81,8 +79,7 @@ pub record IsFileLeft {F : Type 0} (file : FileGhosts F) (from left : F) : Type 
   pub is : MayLeave (file.disk from) (file.stored left).content
   pub durable : (bytes : Option (List ℕ)) → MayLeave (file.disk left) bytes → bytes ≡ (file.stored left).content
 
--- others leave durable what was: the names of messages that they leave, and the bytes of the account's files; and no
--- more may be left of the record's file than it holds and than could be left before
+-- what others leave is as durable as it was, and of the record may be left what it holds, or could be left before
 pub record KeepsDurable {F : Type 0} (file : FileGhosts F) (account : List ℕ) (before : AccountMail) (from f : F)
     (after : AccountMail) : Type 0 where
   pub named : (id : List ℕ) → is_legal_id id ≡ true → has_named account before.maildir id ≡ true
@@ -100,8 +97,7 @@ DurableAccountsAreSafe {F} file = (f : F) (mail : Mail) (state : State) (intent 
     → ((left : Option (List ℕ)) → MayLeave (file.disk f) left → left ≡ (file.stored f).content)
     → IsCrashSafe (file.disk f) mail state
 
--- the messages that are held or were taken away are exactly the first of these, and all of them but perhaps the last
--- have a file whose name is durable, or were taken away
+-- exactly the first of these messages are held or were taken away, and all of them but perhaps the last are durable
 pub record IsDurableFront (mail : Mail) (state : State) (all : List Message) : Type 0 where
   pub is : IsFront mail state all
   pub first : List Message

@@ -2,7 +2,7 @@
 -- show any messages, in any order, and each call may have other limits: what stays is which texts come for a unique-id.
 use Rattle.std.{
   specs.Prelude.{◌≡◌, ◌⊎◌, ◌<◌, ◌-◌, ◌&&◌, ◌||◌, ℕ, Bool, true, false, not, List, [], ◌∷◌, ◌++◌, map, length, Some},
-  specs.Prelude.{slice_get, None, is_none},
+  specs.Prelude.{slice_get, None},
   specs.List.{AllByRecursion, count_by, filter, list_any},
   proofs.Common.inr,
 }
@@ -10,7 +10,7 @@ use Rattle.pop3_wire.specs.{World.Message, declared.command.Command.{Command, Th
 use Rattle.mail_terms.specs.{Distinct.AreDistinct, Text.IsWhole, UniqueId.{is_legal_id, has_id}}
 use Rattle.rc_file.specs.declared.settings.Settings.{Settings}
 use Rattle.fetch_record.specs.Record.{is_delivered}
-use Rattle.fetch_rules.specs.Wanted.{at_most, is_within, own_skip}
+use Rattle.fetch_rules.specs.Wanted.{at_most, is_within}
 use Rattle.mail_store.specs.{
   FileName.{is_held, name_of, names_id, stem_of},
   Maildir.file,
@@ -102,11 +102,16 @@ DeletesOneOf maildrop Is (Dele number) = (0 < number) × (message : Message)
     × (slice_get maildrop (number - 1) ≡ Some message) × Is message.uid
 DeletesOneOf maildrop Is _ = Unit {0}
 
--- an uncut session that met such odd names and knows messages of such ids retrieved what it wants of the maildrop: as
--- many as its limit says of those that it has no reason to skip. These are of this kind, and so are those that it knows
+-- whether a session that met such odd names and knows such ids may fetch a message
+abbrev pub may_fetch : Settings → (odd known : List ℕ → Bool) → Message → Bool
+may_fetch settings is_odd is_known m = not (not settings.read_all && is_known m.uid)
+    && (not (is_odd m.uid) && is_within settings.max_size m.size)
+
+-- an uncut session that met such odd names and knows messages of such ids retrieved what it wants of the maildrop: of
+-- those that it may fetch as many as its limit says. These are of this kind, and so are those that it knows
 abbrev pub FetchesWanted : {W S F : Type 0} → Call W S F → (odd known : List ℕ → Bool) → (Message → Type 0) → Type 0
 FetchesWanted call is_odd is_known Is = call.report.outcome ≡ Ended → let wanted = at_most call.settings (λ m. m.size)
-    (filter (λ (m : Message). is_none (own_skip call.settings (is_odd m.uid) is_known m.uid m.size)) call.maildrop) in
+    (filter (may_fetch call.settings is_odd is_known) call.maildrop) in
     (call.report.retrieved ≡ length wanted) × AllByRecursion Is (filter (λ m. is_known m.uid) call.maildrop ++ wanted)
 
 -- what a maildrop has within the session's limit and isn't done is the first of these
@@ -127,9 +132,8 @@ pub record IsNew {W S F : Type 0} (mail : Mail) (before : AccountMail) (call : C
   pub unheld : is_held mail.account before.maildir m.uid ≡ false
   pub unrecorded : call.settings.read_all ≡ false → is_delivered before.rows m.uid ≡ false
 
--- a call that sent this, and left this account. Each DELE, the last perhaps in part, is for a message that is held or
--- was taken away. An uncut one reports as many texts as it sent RETRs, and records what it knew and wanted. What QUIT
--- removed is recorded. No file is lost, only files of new messages come, and what is recorded stays so
+-- what a call promises that sent this and left this account: DELE, even in part, is for what is held or was taken away;
+-- no file is lost, only those of new messages come; what was recorded, QUIT removed or an uncut one wants is recorded
 pub record Promises {W S F : Type 0} (mail : Mail) (state : State) (call : Call W S F) (sent : List ℕ)
     (after : AccountMail) : Type 0 where
   pub wanted : FetchesWanted call (λ id. list_any (names_id mail.account id) after.maildir.odd)
@@ -174,8 +178,7 @@ is_entered base done id = base.had id || has_id (message_ids done) id
 abbrev pub base_from : Base → MboxMail → Base
 base_from base after = record base { start = after.file; had = λ id. is_delivered after.rows id }
 
--- the intent to append the entry of a message that isn't recorded is open, and the file is these bytes and what a loss
--- of power may leave of the entry: all of it, a prefix, or one with zeros
+-- an intent for a message that isn't recorded is open, and after these bytes is what a loss may leave of its entry
 pub record IsOpenFor (base : Base) (bytes : List ℕ) (account : MboxMail) : Type 0 where
   pub next : Message
   pub is : IsOf (IsTextOf base) next
@@ -197,8 +200,7 @@ pub record HoldsEntries (base : Base) (done : List Message) (account : MboxMail)
   pub recorded : (id : List ℕ) → is_delivered account.rows id ≡ is_entered base done id
   pub stands : Stands base (base.start ++ entries_of done) account
 
--- the messages that have entries, after those that were recorded before the first session, are exactly the first of
--- these, and an open intent is that of the next
+-- those recorded before, then those with entries, are exactly the first of these; an open intent is that of the next
 pub record IsMboxFront (base : Base) {done : List Message} {account : MboxMail} (holds : HoldsEntries base done account)
     (all : List Message) : Type 0 where
   pub first : List Message
@@ -208,28 +210,21 @@ pub record IsMboxFront (base : Base) {done : List Message} {account : MboxMail} 
   pub next : (o : IsOpenFor base (base.start ++ entries_of done) account) → holds.stands ≡ inr o
       → (more : List Message) × (rest ≡ o.next ∷ more)
 
--- an uncut session leaves no intent open, and whole entries; of the new ones those that it found whole come first. Each
--- DELE, the last perhaps in part, and what QUIT removes is of a message that has an entry, or was recorded at the start
-pub record MboxPromises {W S F : Type 0} (base : Base) (before done : List Message) (call : Call W S F)
-    (sent : List ℕ) (after : MboxMail) : Type 0 where
-  pub closed : call.report.outcome ≡ Ended → after.intent ≡ None
-  pub whole : call.report.outcome ≡ Ended → after.file ≡ base.start ++ entries_of done
-  pub found : List Message
-  pub fetched : call.report.outcome ≡ Ended → (texts : List Message) × (done ≡ (before ++ found) ++ texts)
-      × (length texts ≡ call.report.retrieved)
-  pub wanted : FetchesWanted call (λ id. false) (is_entered base (before ++ found))
-      (λ m. is_entered base done m.uid ≡ true)
-  pub deletes : SendsOnly (DeletesOneOf call.maildrop (λ id. is_entered base done id ≡ true)) sent
-  pub retrieved : call.report.outcome ≡ Ended → call.report.retrieved ≡ count_by is_retr deletes.commands
-  pub vanished : AllByRecursion (λ id. is_entered base done id ≡ true) call.vanished
-
--- a call adds the entries of these messages, in the order in which they were fetched, and keeps its promises. What
--- follows of one more entry is as it was, or a prefix. If the server shows a list in order, its first have entries
+-- a call adds the entries of these messages, first those that it found whole; an uncut one leaves no intent open. DELE,
+-- even in part, and QUIT are for what is entered. A part of one more entry is as it was, or a prefix
 pub record AppendsMail {W S F : Type 0} (base : Base) {done : List Message} {before : MboxMail}
     (holds : HoldsEntries base done before) (call : Call W S F) (sent : List ℕ) (after : MboxMail) : Type 0 where
   pub more : List Message
-  pub promises : MboxPromises base done (done ++ more) call sent after
   pub kept : HoldsEntries base (done ++ more) after
+  pub closed : call.report.outcome ≡ Ended → after.intent ≡ None
+  pub found : List Message
+  pub fetched : call.report.outcome ≡ Ended → (texts : List Message) × (more ≡ found ++ texts)
+      × (length texts ≡ call.report.retrieved)
+  pub wanted : FetchesWanted call (λ id. false) (is_entered base (done ++ found))
+      (λ m. is_entered base (done ++ more) m.uid ≡ true)
+  pub deletes : SendsOnly (DeletesOneOf call.maildrop (λ id. is_entered base (done ++ more) id ≡ true)) sent
+  pub retrieved : call.report.outcome ≡ Ended → call.report.retrieved ≡ count_by is_retr deletes.commands
+  pub vanished : AllByRecursion (λ id. is_entered base (done ++ more) id ≡ true) call.vanished
   pub part : (o : IsOpenFor base (base.start ++ entries_of (done ++ more)) after) → kept.stands ≡ inr o
       → (after.file ≡ before.file) ⊎ ((behind : List ℕ) × (entry_of o.next.text ≡ o.part ++ behind))
   pub in_order : (all : List Message) → (front : IsMboxFront base holds all)

@@ -120,18 +120,11 @@ pub fn mbox_sessions_lose_nothing()
     laws_below();
 }
 
-/// The statement, for a Maildir: after any list of calls of `session`, each cut at any reply or refused write,
-/// over maildrops in any order and under any limits, each message is in one file, with a text that came for its
-/// unique-id, byte for byte with lines ended by LF, or in none; an uncut call leaves out only what its own limits
-/// exclude, and messages whose file name is taken by what can't be opened; DELE was sent only for messages held; no
-/// file is lost; and what is recorded as delivered, or is gone from the server, is held or was taken away. If a
-/// server shows the messages of a list in their order, and no call met such a name, the first of these are held.
-///
-/// At any moment, also during a call, a mail reader may move files between `new` and `cur`, change their
-/// marks, and take them away. Between two calls a process may start anew, readers may put messages back, and
-/// the record may be lost or be replaced by an older one. Power may be lost: that takes only messages that are
-/// neither recorded nor gone from the server, and such as were taken away before and stored again.
-#[tactic(auto, using(crate::proofs::Calls::calls_keep_promises))]
+/// The statement, for a Maildir: whatever calls of `session`, others and losses of power come, in any order, each
+/// message is in one file, with a text that came for its unique-id, or in none; no file is lost; DELE was sent only for
+/// messages held; an uncut call leaves out only what its own limits exclude, and messages whose file name is taken by
+/// what can't be opened; and what is recorded as delivered, or is gone from the server, is held or was taken away. A
+/// loss of power takes nothing of that, but what was taken away before. `docs/HEADLINE.md` has it all in words.
 pub fn calls_keep_promises<W: Wire, D: MaildirDisk, F: FlatFile>()
     ensures { CallsKeepPromises W.Wire D.MaildirDisk F.FlatFile }
 {
@@ -227,19 +220,11 @@ pub fn empty_accounts_hold()
     ensures { EmptyAccountsHold }
 {}
 
-/// The statement, for an mboxrd file: where a unique-id always names one text, after any list of calls of
-/// `session` that read only what is new, each cut at any reply or refused write, over maildrops in any order
-/// and under any limits, the file holds what it held before the first one, followed by the entries of messages,
-/// each once, in the order in which they were fetched, and by at most a prefix of one more entry, or what a
-/// loss of power left of it, whose intent is then open; after an uncut call nothing of another entry is left,
-/// and only what its own limits exclude is left out; and DELE was sent only for messages whose entry is whole,
-/// or that were recorded before the first call or before others last wrote the file. If a server shows the
-/// messages of a list in their order, the first of these have entries.
-///
-/// Between two calls a process may start anew. What others or a loss of power left may be any account without an
-/// open intent, which counts as from before the first call, or one whose file holds the entries of any messages
-/// and a part of one more. Power may be lost after any call, also one that was cut: if whatever that might leave
-/// before the call holds the entries of messages, so does whatever it may leave after it.
+/// The statement, for an mboxrd file, where a unique-id names one text and calls read only what is new: the file holds
+/// what it held before the first call, then the entries of messages, each once, in the order in which they were
+/// fetched, and at most a prefix of one more, or what a loss of power left of it, whose intent is then open; after an
+/// uncut call there is none, and only what its own limits exclude is left out; and DELE was sent only for messages
+/// whose entry is whole, or that were recorded before the first call or before others last wrote the file.
 pub fn mbox_calls_keep_promises<W: Wire, D: MaildirDisk, F: FlatFile>()
     ensures { MboxCallsKeepPromises W.Wire D.MaildirDisk F.FlatFile }
 {

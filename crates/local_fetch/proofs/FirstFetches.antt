@@ -15,7 +15,7 @@ use Rattle.fetch_session.specs.Account.{digits_of}
 use Rattle.fetch_runs.{
   specs.{Accounts.{AccountMail, copies}, Promises.{Call, DeletesOneOf, FetchesWanted, IsSafe, Mail, MboxStarts, state_with}},
   specs.Calls.{Called, EmptyAccountsHold, with_left},
-  proofs.Lists.{all_append, all_back, all_both, all_filter, all_take},
+  proofs.{Lists.{all_append, all_back, all_both, all_filter, all_take}, MboxPromised.ends_whole},
 }
 use Rattle.local_fetch.{
   specs.Fetches.{FetchesKeepPromises, FirstFetchesKeepMail, as_call, nothing_yet, MboxFetchesKeepPromises, MboxFirstFetchesKeepMail},
@@ -120,23 +120,25 @@ pub keep_entries : {M D F : Type 0} (link : WireGhosts (Loop M)) (disk : DiskGho
 keep_entries link disk file drop starts law text_of devices fetch no_record only_new is =
     let (_, _, then) = mbox_from_nothing link disk file drop starts law text_of devices (Called fetch ∷ []) no_record in
     let (vanished, removed, _, sent, after, sent_is, shows, appends, _, _, _) = then only_new is in
-    let done : List Message = appends.more in
-    let kept = appends.promises in (
+    let done : List Message = appends.more in (
       vanished,
       removed,
       done,
-      kept.vanished,
+      appends.vanished,
       sent,
       sent_is,
       record {
-        commands = kept.deletes.commands;
-        asked = kept.deletes.asked;
+        commands = appends.deletes.commands;
+        asked = appends.deletes.asked;
         deletes = λ front behind number is.
-            let (_, m, at, entered) = its_message _ _ _ front behind number is kept.deletes.each in
+            let (_, m, at, entered) = its_message _ _ _ front behind number is appends.deletes.each in
             (m, at, entered);
-        retrieved = kept.retrieved;
+        retrieved = appends.retrieved;
       },
-      λ ended. (sym shows.bytes ∙ kept.whole ended, (after.rows, rw (kept.closed ended) at shows.record_is)),
-      kept.found,
-      kept.wanted,
+      λ ended. (
+        sym shows.bytes ∙ ends_whole _ done after appends.kept (appends.closed ended),
+        (after.rows, rw (appends.closed ended) at shows.record_is),
+      ),
+      appends.found,
+      appends.wanted,
     )

@@ -16,14 +16,14 @@ use Rattle.fetch_record.specs.Record.{is_delivered}
 use Rattle.pop3_wire.specs.{World.Message, declared.wire.Wire.Ghosts as WireGhosts}
 use Rattle.pop3_server.specs.{declared.maildrop.Maildrop.Ghosts as DropGhosts, LoopLink.Loop}
 use Rattle.rc_file.specs.declared.settings.Settings.{Settings}
-use Rattle.fetch_rules.{specs.Wanted.{fitting}, proofs.PlanLemmas.own_passes}
+use Rattle.fetch_rules.specs.Wanted.{fitting}
 use Rattle.fetch_session.specs.{declared.account.Store.TheVariants.Maildir as InMaildir, Account.digits_of}
 use Rattle.fetch_runs.{
   specs.{Accounts.{AccountMail, copies}, Steps.IsIn},
   specs.Promises.{Call, ComesFor, Devices, FetchesWanted, Invariant, IsMaildrop, IsOf, IsSafe, Mail, OneComes, State},
-  specs.Promises.{is_safe, state_with},
+  specs.Promises.{is_safe, may_fetch, state_with},
   specs.Calls.{Called, Happening, Left, Lost, Shows, with_left},
-  proofs.Core.{may_fetch, message_size},
+  proofs.Core.message_size,
   proofs.Lists.{all_back, all_both, all_front, all_ids_at, all_map, bytes_self},
 }
 use Rattle.local_fetch.{
@@ -132,8 +132,7 @@ all_fetched call is_odd known Is size count clear both =
     bits false false = refl
 
     either : (m : Message) → (known m.uid || may_fetch call.settings is_odd known m) ≡ true
-    either m = ap (λ b. known m.uid || b) (own_passes call.settings (is_odd m.uid) known m.uid m.size)
-        ∙ rw (clear m.uid, size) (bits call.settings.read_all (known m.uid))
+    either m = rw (clear m.uid, size) (bits call.settings.read_all (known m.uid))
 
 -- ---- any list of calls
 

@@ -4,7 +4,7 @@ use Rattle.std.{
     Common.{◌≡◌, ℕ, zero, suc, Bool, true, false, [], ◌∷◌, List, None, inl, inr, refl, ◌∙◌, arith, true≢false},
     lemmas.Bool.cases_Bool,
   },
-  specs.{List.filter, Prelude.{◌==◌, if◌then◌else◌, is_none, take}},
+  specs.{List.filter, Prelude.{◌==◌, if◌then◌else◌, take}},
 }
 use Rattle.mail_store.specs.{
   declared.{maildir.disk.MaildirDisk.Ghosts as DiskGhosts, file.flat_file.FlatFile.Ghosts as FileGhosts},
@@ -14,13 +14,13 @@ use Rattle.pop3_wire.specs.{World.Message, declared.wire.Wire.Ghosts as WireGhos
 use Rattle.pop3_server.specs.{declared.maildrop.Maildrop.Ghosts as DropGhosts, LoopLink.Loop, Maildrop.DropMail}
 use Rattle.rc_file.specs.declared.settings.Settings.{Settings}
 use Rattle.fetch_record.specs.{Record.empty, RecordFile.Two}
-use Rattle.fetch_rules.specs.Wanted.{at_most, is_within, own_skip}
+use Rattle.fetch_rules.specs.Wanted.{at_most, is_within}
 use Rattle.fetch_session.specs.{
   Account.digits_of,
   Record.FileReadAs,
   declared.account.Store.TheVariants.{Maildir as InMaildir},
 }
-use Rattle.fetch_runs.{specs.Calls.account_over, proofs.Lists.are_distinct}
+use Rattle.fetch_runs.{specs.{Calls.account_over, Promises.may_fetch}, proofs.Lists.are_distinct}
 use Rattle.local_fetch.specs.{
   Fetches.{FirstFetchesKeepMail, IsFetch, shown_by},
   Good.{GoodFetchesStoreAll, OneIsStored, server_with},
@@ -38,21 +38,15 @@ one_of count message = elim (cases_Bool (count == 0)) [
 ]
 
 -- nothing is known of it, its name is free, and it is within the limit
-none_skipped : (settings : Settings) (uid : List ℕ) (size : ℕ) → is_within settings.max_size size ≡ true
-    → own_skip settings false (λ id. false) uid size ≡ None
-none_skipped settings uid size fits = elim (cases_Bool settings.read_all) [
-  | inl is ↦ rw (is, fits) refl
-  | inr isnt ↦ rw (isnt, fits) refl
-]
-
 is_wanted : (settings : Settings) (message : Message) (is_odd : List ℕ → Bool) → is_odd message.uid ≡ false
     → is_within settings.max_size message.size ≡ true
-    → at_most settings (λ (m : Message). m.size) (filter (λ (m : Message).
-    is_none (own_skip settings (is_odd m.uid) (λ id. false) m.uid m.size)) (message ∷ [])) ≡ message ∷ []
+    → at_most settings (λ (m : Message). m.size) (filter (may_fetch settings is_odd (λ id. false)) (message ∷ [])) ≡ message ∷ []
 is_wanted settings message is_odd free fits =
-    let none : own_skip settings (is_odd message.uid) (λ id. false) message.uid message.size ≡ None =
-    rw free (none_skipped settings message.uid message.size fits) in
-    rw none (one_of settings.max_count message)
+    let may : may_fetch settings is_odd (λ id. false) message ≡ true = elim (cases_Bool settings.read_all) [
+      | inl is ↦ rw (is, free, fits) refl
+      | inr isnt ↦ rw (isnt, free, fits) refl
+    ] in
+    rw may (one_of settings.max_count message)
 
 -- no file stands for the empty record
 read_none : FileReadAs None empty

@@ -199,15 +199,15 @@ MboxFetchesKeepPromises {M} {D} {F} link disk file drop = (base : Base) (done : 
 
 -- nothing was fetched yet: the file is as it was before, and there is no row
 abbrev pub no_entries : (List ℕ → List ℕ) → List ℕ → Base
-no_entries text_of bytes = record { start = bytes; had = λ id. false; text = text_of }
+no_entries text bytes = record { start = bytes; had = λ id. false; text = text }
 
 -- the law: so it is from any mboxrd file and no record on
 abbrev pub MboxFetchesFromNothing : {M D F : Type 0} → WireGhosts (Loop M) → DiskGhosts D → FileGhosts F
     → DropGhosts M → Type 0
-MboxFetchesFromNothing {M} {D} {F} link disk file drop = (text_of : List ℕ → List ℕ) (devices : Devices F F)
+MboxFetchesFromNothing {M} {D} {F} link disk file drop = (text : List ℕ → List ℕ) (devices : Devices F F)
     (list : List (Happening (Fetch M F F) (Devices F F) MboxMail)) → (file.stored devices.file).content ≡ None
     → let bytes = mail_in (file.stored devices.store).content in
-    KeepMboxPromises link disk file drop (no_entries text_of bytes) []
+    KeepMboxPromises link disk file drop (no_entries text bytes) []
     (record { rows = []; intent = None; file = bytes }) devices list
 
 -- a law: from any mboxrd file and no record on, each message that a call removed from its server, or that it sent DELE
@@ -215,9 +215,9 @@ MboxFetchesFromNothing {M} {D} {F} link disk file drop = (text_of : List ℕ →
 -- message of the server that it wants has one, or was known and has one
 abbrev pub MboxFirstFetchesKeepMail : {M D F : Type 0} → WireGhosts (Loop M) → DiskGhosts D → FileGhosts F
     → DropGhosts M → Type 0
-MboxFirstFetchesKeepMail {M} {D} {F} link disk file drop = (text_of : List ℕ → List ℕ) (devices : Devices F F)
+MboxFirstFetchesKeepMail {M} {D} {F} link disk file drop = (text : List ℕ → List ℕ) (devices : Devices F F)
     (fetch : Fetch M F F) → (file.stored devices.file).content ≡ None → fetch.settings.read_all ≡ false
-    → IsFetch link disk file drop InMbox (IsTextOf (no_entries text_of [])) devices fetch
+    → IsFetch link disk file drop InMbox (IsTextOf (no_entries text [])) devices fetch
     → (vanished : List (List ℕ)) × ServerRemoves drop fetch vanished × (done : List Message)
     × AllByRecursion (λ id. has_id (message_ids done) id ≡ true) vanished
     × (sent : List ℕ) × ((link.history fetch.wire).sent ≡ (link.history (loop_to fetch.server)).sent ++ sent)
