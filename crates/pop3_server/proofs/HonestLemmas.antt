@@ -2,7 +2,7 @@
 use Rattle.std.{
   proofs.Common.{length-append, ◌≡◌, ◌⊎◌, inl, inr, ◌<◌, ◌≤◌, ◌+◌, ◌-◌, ◌*◌, ◌^◌, ℕ, zero, suc, Bool, true, false, cond, List, [], ◌∷◌, ap},
   proofs.Common.{◌++◌, map, length, refl, sym, subst, ◌∙◌, arith, append_assoc, Some, None, codes, not, slice_get, slice_set, decimal, Ok},
-  proofs.Common.{Option, bytes_eq, ◌&&◌, ap₂},
+  proofs.Common.{Option, bytes_eq, ◌&&◌, ap₂, get_or},
   proofs.lemmas.Bool.{cond-true, cond-false, false≢true, Decides.eqb_tells},
   proofs.lemmas.List.{length-map, append-nil, length-set, Folds.{list_all-append, flat_map-map}, Elements.recursion_from_All},
   proofs.lemmas.List.{Sorted.IsPermutation-refl, Sums.{sum_by-cons, count_by-le-length}},
@@ -25,7 +25,8 @@ use Rattle.pop3_server.{
   specs.ServerMachine.{scan_line, uid_line, lines_from, listed, IsSmall, KeepLimits, Machine, Action, Say, Open, Give, Leave, DoesAction},
   specs.ServerMachine.{action_of, is_open, octets_line, in_authorization, in_transaction, greeting_line},
   specs.HonestServer.{AreLeftByQuit, IsClosedByQuit, IsOfSession, IsAsked, command_lines, ConversesHonestly, Gone},
-  proofs.{RemovalLemmas.{few_left, none_gone, left_by_quit}, RowLemmas.{row_with, rows_with}, SlotLemmas.there_map},
+  specs.HonestServer.{RemovesAtQuit, unmarked_of},
+  proofs.{RemovalLemmas.{few_left, none_gone, left_by_quit, unmarked_left}, RowLemmas.{row_with, rows_with}, SlotLemmas.there_map},
 }
 use Rattle.mail_terms.specs.Text.{lines_of_text, IsWhole, whole_text}
 
@@ -428,16 +429,37 @@ module _ {D : Type 0} (sound : D → Type 0) (mail : D → DropMail) where
       record { left = rw same (none_gone ms marks stands.1); before_quit = λ _. same }
   gone_at ms marks Closed mail stands = record { left = stands; before_quit = λ e. absurd (false≢true e) }
 
-  -- what was answered is honest, what is gone then was marked, and only QUIT closes the server
+  removes_at_quit : (ms : List Message) (marks : List Bool) (server : Machine D) → IsStateWith ms server.state (mail server.drop) marks
+      → RemovesAtQuit sound mail ms marks server
+  removes_at_quit ms marks server stands last answer rest turn positive s =
+      by server.state stands turn.was_open (rw (round_trip Quit tt refl) at turn.answers.does)
+    where
+      none_marked : (ms : List Message) → ms ≡ unmarked_of ms (no_marks ms)
+      none_marked [] = refl
+      none_marked (m ∷ ms) = ap (λ (l : List Message). m ∷ l) (none_marked ms)
+
+      by : (state : State) → IsStateWith ms state (mail server.drop) marks → is_open state ≡ true
+          → DoesAction sound mail (action_of server.user server.pass state (Ok Quit)) server.drop answer last.state last.drop
+          → there (mail last.drop).slots ≡ unmarked_of ms marks
+      by (Authorization given) stands opened does = rw (does.2, stands.0, stands.1) (none_marked ms)
+      by (Transaction rows) stands opened (state, (true, is, known)) =
+          unmarked_left ms marks (mail server.drop) (mail last.drop) stands.1 stands.0 (rw stands.2 at (known s).1)
+      by (Transaction rows) stands opened (state, (false, is, known)) =
+          let never : said (codes "-ERR some messages not removed") ≡ codes "+OK" ++ rest = sym is ∙ positive in
+          absurd (omega (arith, ap (λ (l : List ℕ). get_or l 0 0) never))
+      by Closed stands opened does = absurd (false≢true opened)
+
+  -- what was answered is honest, what is gone then was marked, only QUIT closes the server, and then what is marked goes
   pub answers_honestly : (old new : Machine D) (commands : List Command) (answers : List ℕ)
       → old.state ≡ Authorization None → AllByRecursion IsAsked commands → AnswersLines sound mail old (command_lines commands) answers new
       → sound new.drop → AllByRecursion IsMessage (there (mail old.drop).slots)
       → (marks : List Bool) × Replies (there (mail old.drop).slots) (no_marks (there (mail old.drop).slots)) commands answers marks
       × Gone (there (mail old.drop).slots) marks new.state (there (mail new.drop).slots) × IsClosedByQuit new.state commands
+      × RemovesAtQuit sound mail (there (mail old.drop).slots) marks new
   answers_honestly old new commands answers state asked run s messages =
       let ms = there (mail old.drop).slots in
       let all = all_replied ms (no_marks ms) commands old new answers messages asked run s (rw state (refl, refl)) in
-      (all.0, all.1, gone_at ms all.0 new.state (mail new.drop) all.2, all.3 (rw state refl))
+      (all.0, all.1, gone_at ms all.0 new.state (mail new.drop) all.2, all.3 (rw state refl), removes_at_quit ms all.0 new all.2)
 
   -- the greeting and honest replies
   abbrev pub honest_from : (ms : List Message) (marks : List Bool) (commands : List Command)
@@ -471,6 +493,7 @@ module _ {D : Type 0} (sound : D → Type 0) (mail : D → DropMail) where
             (λ front rest e. omega (arith, ap length e, length-append front (crlf ++ rest))) (sym (append-nil _)) all.1
             (sym (append-nil _)),
         all.2,
+        all.4,
       )
 
 -- ---- what a link to a new server gives is honest: the lines that were answered are the first of the commands that were sent
@@ -483,7 +506,7 @@ pub record Cut (lines : List (List ℕ)) (commands : List Command) (waiting part
   pub lines_are : lines ≡ command_lines first
   pub rest : waiting ≡ flat_map ended (command_lines later) ++ part
 
-cut_at : (lines : List (List ℕ)) (commands : List Command) (waiting part : List ℕ) → AllByRecursion IsLine lines
+pub cut_at : (lines : List (List ℕ)) (commands : List Command) (waiting part : List ℕ) → AllByRecursion IsLine lines
     → AllByRecursion IsAsked commands → IsLine part
     → flat_map ended lines ++ waiting ≡ flat_map ended (command_lines commands) ++ part → Cut lines commands waiting part
 cut_at [] commands waiting part each asked whole e = record { first = []; later = commands; all = refl; lines_are = refl; rest = e }

@@ -6,7 +6,7 @@ use Rattle.std.proofs.{
 }
 use Rattle.pop3_wire.specs.World.{Message}
 use Rattle.pop3_server.{
-  specs.{declared.rows.MessageRow.MessageRow, HonestServer.AreLeftByQuit, Maildrop.{DropMail, HasPlace, there}},
+  specs.{declared.rows.MessageRow.MessageRow, HonestServer.{AreLeftByQuit, unmarked_of}, Maildrop.{DropMail, HasPlace, there}},
   specs.{ServerMachine.{Tries, Empties, none, stays, goes}, Removal.{holds_message, left_marked}},
   proofs.RowLemmas.rows_with,
 }
@@ -121,5 +121,29 @@ emptied (m ∷ ms) (b ∷ bs) pre (goes i row rows old mid done all new marked t
 pub left_by_quit : (ms : List Message) (marks : List Bool) (old new : DropMail) (all : Bool) → length marks ≡ length ms
     → old.slots ≡ map Some ms → Empties 0 (rows_with ms marks) old all new → AreLeftByQuit ms marks (there new.slots)
 left_by_quit ms marks old new all same slots empties = let left = emptied ms marks [] empties refl same slots in rw left.1 left.2
+
+-- if all were removed, those that aren't marked are left
+all_gone : (ms : List Message) (marks : List Bool) (pre : List (Option Message)) {i : ℕ} {old : DropMail} {all : Bool}
+    {new : DropMail} → Empties i (rows_with ms marks) old all new → all ≡ true
+    → i ≡ length pre → length marks ≡ length ms → old.slots ≡ pre ++ map Some ms
+    → (after : List (Option Message)) × (new.slots ≡ pre ++ after) × (there after ≡ unmarked_of ms marks)
+all_gone [] marks pre (none i old) whole at same slots = ([], slots, refl)
+all_gone (m ∷ ms) [] pre empties whole at same slots = absurd (omega arith)
+all_gone (m ∷ ms) (b ∷ bs) pre (stays i row rows old all new unmarked rest) whole at same slots =
+    let left = all_gone ms bs (pre ++ Some m ∷ []) rest whole
+    (omega (arith, at, length-append pre (Some m ∷ []))) (omega arith) (rw (slots, append_assoc)) in
+    (Some m ∷ left.0, left.1 ∙ append_assoc pre (Some m ∷ []) left.0, rw unmarked (ap (λ (l : List Message). m ∷ l) left.2))
+all_gone (m ∷ ms) (b ∷ bs) pre (goes i row rows old mid true all new marked tries rest) whole at same slots =
+    let gone : mid.slots ≡ pre ++ None ∷ map Some ms =
+    ap (λ (mail : DropMail). mail.slots) tries ∙ rw slots (set_at pre (Some m) (map Some ms) None i (sym at)) in
+    let left = all_gone ms bs (pre ++ None ∷ []) rest whole
+    (omega (arith, at, length-append pre (None ∷ []))) (omega arith) (rw (gone, append_assoc)) in
+    (None ∷ left.0, left.1 ∙ append_assoc pre (None ∷ []) left.0, rw marked left.2)
+all_gone (m ∷ ms) (b ∷ bs) pre (goes i row rows old mid false all new marked tries rest) whole at same slots = absurd (false≢true whole)
+
+pub unmarked_left : (ms : List Message) (marks : List Bool) (old new : DropMail) → length marks ≡ length ms
+    → old.slots ≡ map Some ms → Empties 0 (rows_with ms marks) old true new → there new.slots ≡ unmarked_of ms marks
+unmarked_left ms marks old new same slots empties =
+    let left = all_gone ms marks [] empties refl refl same slots in rw left.1 left.2
 
 pub ruleset removal_laws = (few_left, all_removed, some_refused, others_stay)

@@ -1,11 +1,12 @@
 -- If the commands are a session's, conversations of the server are honest.
 use Rattle.std.specs.{
-  Prelude.{◌≡◌, ◌⊎◌, ℕ, Bool, true, List, [], ◌∷◌, ◌++◌, map, None},
+  Prelude.{◌≡◌, ◌⊎◌, ℕ, Bool, true, List, [], ◌∷◌, ◌++◌, map, None, if◌then◌else◌},
   List.{flat_map, AllByRecursion},
 }
 use Rattle.pop3_wire.specs.{
-  declared.command.Command.{Command, TheVariants.{UidlOne, ListOne, Top, Quit}},
+  declared.{command.Command.{Command, TheVariants.{UidlOne, ListOne, Top, Quit}}, reply.Status.TheVariants.Positive},
   Line.ended,
+  Reply.indicator,
   CommandLine.HasNumbers,
   Honest.Honest,
   Commands.{line_of, can_be_sent},
@@ -15,7 +16,7 @@ use Rattle.pop3_server.specs.{
   declared.state.State.{State, TheVariants.Authorization},
   Maildrop.{DropMail, there},
   ServerMachine.{Machine, greeting_line, is_open},
-  AnswersLines.AnswersLines,
+  AnswersLines.{AnswersLine, AnswersLines},
 }
 
 -- what a session sends: the commands of its plan, and RSET
@@ -51,8 +52,20 @@ abbrev pub IsClosedByQuit : State → List Command → Type 0
 IsClosedByQuit state commands = (is_open state ≡ true)
     ⊎ ((front behind : List Command) × (commands ≡ front ++ Quit ∷ behind))
 
+-- the messages that aren't marked
+abbrev pub unmarked_of : List Message → List Bool → List Message
+unmarked_of [] marks = []
+unmarked_of (m ∷ ms) [] = []
+unmarked_of (m ∷ ms) (mark ∷ marks) = if mark then unmarked_of ms marks else m ∷ unmarked_of ms marks
+
+-- if the next answer is a positive one to QUIT, just those that aren't marked are left
+abbrev pub RemovesAtQuit : {D : Type 0} → (D → Type 0) → (D → DropMail) → List Message → List Bool → Machine D → Type 0
+RemovesAtQuit {D} sound mail before marks server = (last : Machine D) (answer rest : List ℕ)
+    → AnswersLine sound mail server (line_of Quit) answer last → answer ≡ indicator Positive ++ rest
+    → sound last.drop → there (mail last.drop).slots ≡ unmarked_of before marks
+
 -- a new server's greeting and its answers to these commands are an honest conversation over its maildrop's
--- messages, and what is gone afterwards was marked
+-- messages, and what is gone afterwards was marked; with a positive answer to QUIT, all that is marked goes
 abbrev pub ConversesHonestly : {D : Type 0} → (D → Type 0) → (D → DropMail) → Type 0
 ConversesHonestly {D} sound mail = (old new : Machine D) (commands : List Command) (answers : List ℕ)
     → old.state ≡ Authorization None → AllByRecursion IsAsked commands
@@ -61,3 +74,4 @@ ConversesHonestly {D} sound mail = (old new : Machine D) (commands : List Comman
     → (marks : List Bool) × Honest (there (mail old.drop).slots) (flat_map ended (command_lines commands))
     (greeting_line ++ answers) marks
     × Gone (there (mail old.drop).slots) marks new.state (there (mail new.drop).slots)
+    × RemovesAtQuit sound mail (there (mail old.drop).slots) marks new

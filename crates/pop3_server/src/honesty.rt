@@ -5,7 +5,8 @@ use crate::maildrop::Maildrop;
 
 /// A new server's greeting and its answers to any commands that a session sends, one after another,
 /// are an honest conversation over the messages of its maildrop; while the server is open all of
-/// these are there, and after QUIT only marked ones may be gone, the others in their order.
+/// these are there, and after QUIT only marked ones may be gone, the others in their order. If its
+/// answer to QUIT is positive, all marked ones are.
 #[tactic(auto, using(crate::proofs::HonestLemmas::is_honest))]
 pub fn conversations_are_honest<D: Maildrop>()
     ensures { ConversesHonestly D.sound D.mail }
