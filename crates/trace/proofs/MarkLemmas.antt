@@ -103,9 +103,10 @@ below_covered answer secret start end so covered =
 -- an octet is kept unless a way that covers it goes on
 pub kept_by : (start end octet : ℕ) (part : Option ℕ) → part ≡ (if nat_lt start end then None else Some octet)
     → (start < end → part ≡ None) × ((start < end → ⊥) → part ≡ Some octet)
-kept_by start end octet part is =
-    (λ below. let on : nat_lt start end ≡ true = grind (arith, nat_tests, below) in is ∙ cond-true _ _ _ on,
-    λ above. let off : nat_lt start end ≡ false = grind (arith, nat_tests, above) in is ∙ cond-false _ _ _ off)
+kept_by start end octet part is = (
+  λ below. let on : nat_lt start end ≡ true = grind (arith, nat_tests, below) in is ∙ cond-true _ _ _ on,
+  λ above. let off : nat_lt start end ≡ false = grind (arith, nat_tests, above) in is ∙ cond-false _ _ _ off,
+)
 
 -- one octet more
 pub goes_on : (answer secret : List ℕ) (start end : ℕ) (parts : List (Option ℕ)) (r : Option ℕ) (part : Option ℕ) → start < length answer
