@@ -10,10 +10,9 @@ import shutil
 import subprocess
 import sys
 from collections import Counter
-from pathlib import Path
 from unittest import mock
 
-from getmail.account import Account
+from getmail.account import MEMORY, Account
 from getmail.mbox_account import MboxAccount
 from getmail.shared_server import SharedServer
 from harness import programs
@@ -22,9 +21,6 @@ from harness.mboxrd import SEPARATOR, unquoted
 from probe import grammar
 
 EXAMPLES = programs.ROOT / "examples"
-SCRIPT = EXAMPLES / "carry-account.py"
-# Flushes cost nothing if files are in memory.
-MEMORY = Path("/dev/shm")
 
 FIRST = [(b"1", b"one\n"), (b"2", b"two\n"), (b"b/c", b"three\n"), (b"d", b"four\n")]
 OTHERS = [(b"1", b"the other's one\n"), (b"2", b"the other's two\n"), (b"3", b"the other's three\n")]
@@ -73,7 +69,7 @@ class Home:
 
     def __init__(self, kind=Account):
         self.server, self.other_server = SharedServer(FIRST), SharedServer(OTHERS)
-        self.account = kind(self.server.port, above=MEMORY if os.access(MEMORY, os.W_OK) else None)
+        self.account = kind(self.server.port, above=MEMORY)
         self.home, self.folder, self.maildir = self.account.home, self.account.folder, self.account.maildir
         self.is_mboxrd = kind is MboxAccount
         text = self.account.rcfile.read_text()

@@ -13,7 +13,6 @@ The blocks of an mboxrd file have 512, 1,024 or 4,096 octets.
 import argparse
 import contextlib
 import multiprocessing
-import os
 import random
 import re
 import signal
@@ -25,14 +24,11 @@ from pathlib import Path
 if __name__ == "__main__":
     sys.path.insert(0, str(Path(__file__).resolve().parents[1]))
 
-from getmail.account import Account  # noqa: E402 (the path may have to be there first)
+from getmail.account import MEMORY, Account  # noqa: E402 (the path may have to be there first)
 from getmail.mbox_account import MboxAccount  # noqa: E402
 from getmail.shared_server import SharedServer  # noqa: E402
 from harness import power, preload, programs  # noqa: E402
 from harness.mboxrd import entries, entry  # noqa: E402
-
-# Flushes cost nothing if files are in memory.
-MEMORY = Path("/dev/shm")
 
 WANTED = [(b"one".ljust(70, b"-"), b"one\n"), (b"two".ljust(70, b"-"), b"a line\n" * 700),
           (b"three".ljust(70, b"-"), b"three\nFrom x\n\n.\n")]
@@ -134,7 +130,7 @@ class Stage:
         self.libraries = libraries
         self.server = SharedServer(scene.messages_before())
         kind = MboxAccount if scene.is_mboxrd else Account
-        self.account = kind(self.server.port, LIMIT, above=MEMORY if os.access(MEMORY, os.W_OK) else None)
+        self.account = kind(self.server.port, LIMIT, above=MEMORY)
         self.note = self.account.home / "note"
         if not scene.is_first:
             self.check_good(self.run())

@@ -14,7 +14,7 @@ from pathlib import Path
 from unittest import mock
 
 from getmail.account import Account
-from getmail.carrying import EXAMPLES, FIRST, KEPT, OTHERS, Home, module, run_apart, run_here
+from getmail.carrying import EXAMPLES, FIRST, KEPT, Home, module, run_apart, run_here
 from getmail.mbox_account import MboxAccount
 from getmail.server import Server, SocketServer
 from harness import preload, programs

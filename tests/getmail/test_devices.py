@@ -5,7 +5,7 @@ Each run ends with its line and leaves nothing half done, and the next one, with
 
 import os
 
-from getmail.account import Account
+from getmail.account import MEMORY, Account
 from getmail.one_account import RECORD_REFUSED, REFUSED, THREE, OneAccount
 from getmail.server import MeddlingServer, Server
 from harness import preload, programs
@@ -147,10 +147,10 @@ class OtherHands(Devices):
 
 class ManyNames(Devices):
     def test_a_folder_of_many_names(self):
-        """Each of them is held, whatever its place in the folder."""
+        """Each of them is held, whatever its place in the folder; and each is flushed, so the home is in memory."""
         count = 30_000
         messages = [(b"%05d" % number, b"") for number in range(count)]
-        with Server(messages) as self.server, Account(self.server.port) as self.account:
+        with Server(messages) as self.server, Account(self.server.port, above=MEMORY) as self.account:
             for number, (uid, text) in enumerate(messages):
                 part, mark = (("new", ""), ("cur", ":2,S"))[number % 5 > 0]
                 (self.account.maildir / part / (self.account.name(uid, text) + mark)).touch()
