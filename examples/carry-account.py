@@ -22,7 +22,6 @@ sys.dont_write_bytecode = True
 from account_files import (Record, Refused, add_account, add_folder, content_of, digest_of, flush, flush_names, is_there, locked,
                            opened, read_record, record_of, rename, shown, take_any_letter, write_whole)
 
-# What a reader has seen comes first: of two names of one file that one is kept.
 PARTS = ("cur", "new")
 # A digest, a legal unique-id in hexadecimal, and then the file's size and its reader's flags.
 NAME = re.compile(r"([0-9a-f]{64})\.((?:2[1-9a-f]|[3-6][0-9a-f]|7[0-9a-e]){1,70})(?:[,:].*)?", re.DOTALL)

@@ -4,6 +4,7 @@ mail, record or odd file is touched, whatever readers and runs do meanwhile."""
 import contextlib
 import errno
 import fcntl
+import itertools
 import os
 import subprocess
 import sys
@@ -55,14 +56,21 @@ class Meanwhile:
             if self.left != 0 or self.is_done:
                 return real(first, *words, **more)
             self.is_done = True
-            answer = real(first, *words, **more) if self.is_after else None
-            for patch in self.patched:
-                patch.stop()
-            self.act(first)
-            for patch in self.patched:
-                patch.start()
-            return answer if self.is_after else real(first, *words, **more)
+            if not self.is_after:
+                self.act_on(first)
+                return real(first, *words, **more)
+            try:
+                return real(first, *words, **more)
+            finally:
+                self.act_on(first)
         return do
+
+    def act_on(self, first):
+        for patch in self.patched:
+            patch.stop()
+        self.act(first)
+        for patch in self.patched:
+            patch.start()
 
     def is_over(self):
         """Whether there were fewer calls."""
@@ -301,7 +309,8 @@ class Records(InHome):
     def test_what_is_no_record(self):
         home = self.home
         bad = [b"x\n", b"getmail-seen 3\n", b"getmail-seen 2\n1 5\n", b"getmail-seen 2\n1 5 1\n1 6 1\n",
-               b"getmail-seen 2\n+ 1\n! 1 0 4\n", b"getmail-seen 2\n+ 1\n1 5 1\n1 6 1\n", b"getmail-seen 2"]
+               b"getmail-seen 2\n+ 1\n! 1 0 4\n", b"getmail-seen 2\n+ 1\n1 5 1\n1 6 1\n", b"getmail-seen 2",
+               b"getmail-seen 2\n1 5 1\n+ 1\n1 5 0\n", b"getmail-seen 2\n1 5 0\n+ 1\n1 6 1\n"]
         for content in bad:
             with self.subTest(content):
                 home.record(home.old).write_bytes(content)
@@ -346,6 +355,27 @@ class CutOff(InHome):
         self.old.write_bytes(KEPT)
         self.check_carried()
         self.assertEqual((self.old.exists(), self.new.read_bytes()), (False, KEPT))
+
+    def test_one_that_comes_meanwhile(self):
+        """It is not written over, whenever it comes, and the other one stays too."""
+        came = []
+
+        def come(_):
+            if not self.new.exists():
+                self.new.write_bytes(b"came\n")
+                came.append(b"came\n")
+        for number, is_after in itertools.product(range(1, 200), (False, True)):
+            with self.subTest(call=number, is_after=is_after):
+                self.home.restore()
+                came.clear()
+                with Meanwhile(self.script, self.home.folder, number, come, is_after) as meanwhile:
+                    run = self.carry()
+                if meanwhile.is_over():
+                    return
+                there = [path.read_bytes() for path in (self.old, self.new) if path.exists()]
+                self.assertEqual(sorted(there), sorted([KEPT, *came]), run)
+                self.assertTrue(run.status == 0 or str(self.old) in run.err.decode(), run)
+        self.fail("too many calls")
 
     def test_an_odd_one(self):
         self.old.unlink()
@@ -429,6 +459,11 @@ class Reading(InHome):
                 if name.partition(".")[2].startswith(b"2".hex()) and not name.startswith(self.home.other):
                     (self.home.maildir / part / name).unlink()
 
+    def check_recorded(self):
+        """The message that had no row wasn't missed between two listings."""
+        for digest in (self.home.old, self.home.new):
+            self.assertRegex(self.home.record(digest).read_bytes(), rb"\nd [0-9]+ 1\n")
+
     def play(self, act, faults, step=1):
         for number in range(1, 200, step):
             with self.subTest(act=act.__name__, call=number):
@@ -441,9 +476,7 @@ class Reading(InHome):
                     self.assertGreater(number, 20)
                     return
                 self.assertEqual((self.home.names(self.home.old), self.home.faults()), ([], faults))
-                # A message that has no row yet isn't missed between two listings.
-                for digest in (self.home.old, self.home.new):
-                    self.assertRegex(self.home.record(digest).read_bytes(), rb"\nd [0-9]+ 1\n")
+                self.check_recorded()
                 # What the reader has moved isn't put back.
                 left = [name[64:] for name in os.listdir(self.home.maildir / "new") if name.startswith(self.home.new)]
                 self.assertEqual(self.moved & set(left), set())
@@ -452,6 +485,20 @@ class Reading(InHome):
     def test_with_renames_that_spare_what_is_there(self):
         self.play(self.read, NONE)
         self.play(self.read_new_ones, NONE)
+
+    def test_two_changes_at_one_tick_of_the_clock(self):
+        """A folder has one time after both, where times are kept in whole seconds."""
+        path, times = self.path("new", self.home.old, b"d"), self.script.Maildir.times
+        self.enterContext(mock.patch.object(self.script.Maildir, "times", lambda maildir: [
+            time // 1_000_000_000 * 1_000_000_000 for time in times(maildir)]))
+        for number in (4, 4):
+            self.home.restore()
+            self.moved = set()
+            with Meanwhile(self.script, self.home.maildir, number, self.read_new_ones):
+                for one, other in ((path, path.with_name("x")), (path.with_name("x"), path)):
+                    os.rename(one, other)
+                self.check_carried()
+            self.check_recorded()
 
     def test_with_links(self):
         with mock.patch("ctypes.CDLL", lambda *_, **__: object()):
@@ -509,6 +556,13 @@ class AtWork(InHome):
                 home.server.wait_for_end()
                 asked.clear()
                 over.clear()
+
+    def test_while_it_works_no_other_one_does(self):
+        ends = []
+        with Meanwhile(self.script, self.home.maildir, 1, lambda _: ends.append(self.home.carry())):
+            self.check_carried()
+        self.assertEqual(ends[0].status, 1)
+        self.assertIn(b"at work", ends[0].err)
 
     def test_while_it_works_no_run_does(self):
         ends = []

@@ -55,6 +55,24 @@ class Killed(unittest.TestCase):
         return {"LD_PRELOAD": f"{self.watch} {self.refuse}", "CHANGES_NOTE": f"{self.note}/{number}",
                 "CHANGES_KILLED": str(number), **changes}
 
+    def watched(self, home, script):
+        """The tree below a folder before a script runs, and what that changes."""
+        watched, note = power.Watched(home), Path(self.note) / "power"
+        run = script(LD_PRELOAD=self.watch, CHANGES_NOTE=str(note))
+        self.assertEqual(run.status, 0, run)
+        changes = watched.changes(note.read_bytes())
+        note.unlink()
+        return watched, changes
+
+    def images(self, watched, changes, path):
+        """The trees that a loss of power can leave if a file was put there just before, and nothing of it was flushed; with
+        each how many of the changes were made."""
+        file, folder = sorted(watched.start).index(path), os.path.dirname(path)
+        before = [power.Name(path, None), power.FlushFolder(folder), power.Length(file, 0), power.Flush(file, path),
+                  power.Write(file, 0, watched.start[path]), power.Name(path, file)]
+        for count, image, _ in power.fronts(watched, before + changes, 64, random.Random(1), len(before)):
+            yield count - len(before), image
+
     def check(self, name, found):
         print(f"{name}: {found.kills} kills, {found.lost} lost, {found.doubled} doubled")
         self.assertEqual((found.lost, found.doubled, found.told), (0, 0, []), f"of {found.kills}")
@@ -156,18 +174,9 @@ class PowerLost(Carrying):
 
     MOST = 64 if WHOLE else 3
 
-    def watched(self, home):
-        """The tree before the script, and what it changes."""
-        watched, note = power.Watched(home.home), Path(self.note) / "power"
-        run = home.carry(LD_PRELOAD=self.watch, CHANGES_NOTE=str(note))
-        self.assertEqual(run.status, 0, run)
-        changes = watched.changes(note.read_bytes())
-        note.unlink()
-        return watched, changes
-
     def states(self, home):
         """The trees that a loss of power can leave, each once."""
-        watched, changes = self.watched(home)
+        watched, changes = self.watched(home.home, home.carry)
         seen = set()
         renamed = [(path, path.replace(home.old, home.new)) for path in watched.start if f"{home.old}." in path]
         for _, image, _ in power.fronts(watched, changes, self.MOST, random.Random(1)):
@@ -196,22 +205,30 @@ class PowerLost(Carrying):
         """No record says that it was delivered before its file and its name are on the disk."""
         uid, text = FIRST[-1]
         with Home() as home:
-            watched, changes = self.watched(home)
+            watched, changes = self.watched(home.home, home.carry)
             path, = (path for path, content in watched.start.items() if content == text)
-            new_path, folder = path.replace(home.old, home.new), os.path.dirname(path)
-            file = sorted(watched.start).index(path)
-            before = [power.Name(path, None), power.FlushFolder(folder), power.Length(file, 0), power.Flush(file, path),
-                      power.Write(file, 0, text), power.Name(path, file)]
-            counts = Counter()
-            for count, image, lost in power.fronts(watched, before + changes, 64, random.Random(1), len(before)):
+            new_path, counts = path.replace(home.old, home.new), Counter()
+            for count, image in self.images(watched, changes, path):
                 # A rename within a folder leaves one of its names, once the first one is on the disk.
-                is_named = power.FlushFolder(folder) in changes[:count - len(before)]
+                is_named = power.FlushFolder(os.path.dirname(path)) in changes[:count]
                 is_said = any(re.search(rb"\n%s [0-9]+ 1\n" % uid, image.get(f".getmail/seen-{digest}", b""))
                               for digest in (home.old, home.new))
                 if is_said and not (is_named and path not in image and new_path not in image):
-                    self.assertEqual(image.get(new_path, image.get(path)), text, lost)
+                    self.assertEqual(image.get(new_path, image.get(path)), text)
                 counts[is_said] += 1
         self.assertGreater(min(counts[False], counts[True]), 10)
+
+    def test_the_same_message_that_was_not_flushed(self):
+        """Both accounts have fetched it: the old name goes only once the other file is on the disk."""
+        text = FIRST[-1][1]
+        with Home() as home:
+            self.assertEqual(home.carry().status, 0)
+            path, = (path for path in (home.maildir / "new").iterdir() if path.read_bytes() == text)
+            (path.parent / path.name.replace(home.new, home.old)).write_bytes(text)
+            watched, changes = self.watched(home.home, home.carry)
+            for _, image in self.images(watched, changes, os.path.relpath(path, watched.root)):
+                self.assertIn(text, image.values())
+            self.assertEqual(home.names(home.old), [])
 
 
 class Converted(Killed):
@@ -249,6 +266,24 @@ class Converted(Killed):
             for program in self.LISTS:
                 with self.subTest(program), Account(server.port) as account:
                     self.check(f"from {program}", self.play(account, server, program))
+
+    def test_a_loss_of_power(self):
+        """What a script has said stays so, also of a record that a killed one left."""
+        with SharedServer([]) as server, Account(server.port) as account:
+            path = account.folder / "list"
+            path.write_bytes(self.LISTS["getmail6"])
+
+            def script(**changes):
+                return run_apart("from-getmail6", "-g", account.folder, LOOPBACK, server.port, "u", path, **changes)
+            watched, changes = self.watched(account.home, script)
+            record = os.path.relpath(account.record, watched.root)
+            content = account.record.read_bytes()
+            for count, image, lost in power.fronts(watched, changes, 64, random.Random(1)):
+                self.assertIn(image.get(record), (content,) if count == len(changes) else (None, content), lost)
+            watched, changes = self.watched(account.home, script)
+            for count, image in self.images(watched, changes, record):
+                if count == len(changes):
+                    self.assertEqual(image.get(record), content)
 
     def test_without_a_rename_that_spares_what_is_there(self):
         with SharedServer([(b"%d" % number, b"text\n") for number in range(30)]) as server, Account(server.port) as account:
