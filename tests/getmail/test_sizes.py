@@ -139,4 +139,4 @@ class GreatProgress(unittest.TestCase):
         told = [terminal.told_in(found) for found in terminal.TEXT.finditer(shown)]
         self.assertEqual(list(dict.fromkeys(number for number, _, octets, _ in told if octets == 0)), list(range(1, count + 1)))
         self.assertEqual({total for _, total, _, _ in told}, {count})
-        self.assertGreater(max(len(found[0]) for found in terminal.TEXT.finditer(shown)), 34)
+        self.assertEqual({size for number, _, _, size in told if number == count}, {10_000_000})
