@@ -43,6 +43,7 @@ class Account:
         self.rcfile = self.folder / "getmailrc"
         self.rcfile.write_text(RC.format(server=server, port=port) + options)
         self.rcfile.chmod(0o600)
+        self.name_in_lines = f"{user}@{server}:{port}"
         self.digest = hashlib.sha256(f"{server}\0{port}\0{user}".encode()).hexdigest()
         self.record = self.folder / f"seen-{self.digest}"
         self.lock = self.folder / f"lock-{self.digest}"

@@ -27,6 +27,10 @@ class MboxAccount(Account):
         """What the file holds."""
         return self.mbox.read_bytes()
 
+    def told_kept(self):
+        """The line of a run that knows of something that was cut off."""
+        return f"getmail: {self.name_in_lines}: what was cut off from the mbox file is kept in {self.kept}\n".encode()
+
     def stored(self, texts):
         """How many of the texts have their entries in the file, in order from its beginning, and what follows them.
 

@@ -23,6 +23,10 @@ class InPlaceOfGetmail6(unittest.TestCase):
     def check_stopped(self, path, *words):
         told = (f"getmail: {path} lists what getmail6 fetched: make a record of it with from-getmail6.py, or an empty file "
                 f"{self.account.record} to fetch all mail\n")
+        reason = (f"getmail: {self.account.name_in_lines}: with read_all = false and no record, a run would fetch all its mail "
+                  "again\n")
+        if {"--why", "--unattended"} & {*words}:
+            told += reason
         self.assertEqual(self.account.run("-q", *words), programs.Run(2, b"", told.encode()))
         self.assertEqual(self.account.held(), [])
         self.assertFalse(self.account.record.exists() or self.account.lock.exists())
@@ -35,7 +39,7 @@ class InPlaceOfGetmail6(unittest.TestCase):
 
     def test_nothing_is_fetched(self):
         path = self.list_as("oldmail-mail.example.org-995-u")
-        for words in ((), ("--pretend",), ("-n",), ("--unattended",)):
+        for words in ((), ("--pretend",), ("-n",), ("--why",), ("--unattended",)):
             with self.subTest(words):
                 self.check_stopped(path, *words)
 

@@ -806,7 +806,8 @@ class Cron(Regular):
 
     def test_it_says_what_is_wrong_once(self):
         with Account(1) as account:
-            told = b"getmail: cannot connect to 127.0.0.1:1\ngetmail: u@127.0.0.1:1: 127.0.0.1:1: Connection refused\n"
+            told = b"getmail: cannot connect to 127.0.0.1:1\ngetmail: u@127.0.0.1:1: 127.0.0.1:1: Connection refused\n" \
+                b"getmail: u@127.0.0.1:1: is the tunnel started? "
             status, out = self.run_whole(account)
             self.assertEqual((status, out[:len(told)]), (1, told))
             self.assertEqual(self.run_whole(account), (1, b""))

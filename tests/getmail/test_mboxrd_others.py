@@ -38,7 +38,7 @@ def foreign(length, first=b"From fred@example.org Sat Jan  3 01:05:34 1998\n"):
 
 def told(account):
     """What a session says that cut off what it doesn't know to be its own."""
-    return programs.Run(0, b"", b"getmail: what was cut off from the mbox file is kept in %s\n" % os.fsencode(account.kept))
+    return programs.Run(0, b"", account.told_kept())
 
 
 def mutt(home, keys, file="mbox"):

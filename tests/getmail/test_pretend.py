@@ -245,8 +245,7 @@ class IntoMboxrd(Pretends, unittest.TestCase):
         self.assertEqual(self.server.commands[:len(LOGIN)], LOGIN)
         self.assertEqual(self.left(), left)
         run = self.session("-q")
-        kept = b"getmail: what was cut off from the mbox file is kept in %s\n" % os.fsencode(self.account.kept)
-        fault = run.err.removesuffix(kept)
+        fault = run.err.removesuffix(self.account.told_kept())
         self.assertEqual((said.status, said.err), (run.status, fault), content)
         fetched = [int(command.split()[1]) for command in self.server.commands if command.startswith("RETR")]
         would = [int(line.split()[1].split("/")[0]) for line in said.out.decode().splitlines() if "would be fetched" in line

@@ -83,6 +83,27 @@ class Refusals(unittest.TestCase):
                 (self.account.maildir / part).chmod(0o700)
         self.check_completed()
 
+    def test_the_right_that_is_missing_is_told(self):
+        """With reasons: the folder that may not be written, or the file, and what gives the right. A name goes from `tmp` to
+        `new`: the Maildir is named, since it isn't known which of them refused it."""
+        account = f"getmail: {self.account.name_in_lines}: "
+        hint = account + "it wants rights to read and write: chmod -R u+rwX gives them, if it is yours\n"
+        maildir, folder, record = self.account.maildir, self.account.folder, self.account.record
+        for path, mode, fault, named in ((maildir / "tmp", 0o500, REFUSED, f"{maildir}/"), (maildir / "new", 0o500, REFUSED, f"{maildir}/"),
+                                         (maildir / "cur", 0o300, REFUSED, maildir / "cur"),
+                                         (folder, 0o500, RECORD_REFUSED, folder), (record, 0o000, RECORD_REFUSED, record)):
+            record.unlink(missing_ok=True)
+            if path == record:
+                record.write_bytes(b"getmail-seen 1\n")
+                self.give_away(record)
+            with self.subTest(path):
+                path.chmod(mode)
+                run, _ = self.session("-q", "--why")
+                path.chmod(0o700)
+                told = fault.decode() + f"{account}{named}: Permission denied\n" + hint
+                self.assertEqual((run.status, run.err.decode()[-len(told):]), (1, told))
+        self.check_completed()
+
     def test_a_maildir_that_cannot_be_listed(self):
         for part in ("new", "cur"):
             with self.subTest(part):

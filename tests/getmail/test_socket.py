@@ -6,7 +6,7 @@ from pathlib import Path
 
 from getmail.account import Account
 from getmail.server import SocketServer
-from getmail.test_why import TUNNEL
+from getmail.test_why import START, TUNNEL
 from harness import programs, waits
 
 TWO = [(b"a", b"one\n"), (b"b", b"two\n")]
@@ -19,7 +19,8 @@ class Sockets(unittest.TestCase):
         self.account = self.enterContext(Account(110, server=self.path))
 
     def told(self, *reasons):
-        return [f"getmail: u@{self.path}:110: {reason}" for reason in reasons]
+        """A socket is named without a port."""
+        return [f"getmail: u@{self.path}: {reason}" for reason in reasons]
 
     def test_mail_is_fetched(self):
         """The account is that of the path and the port, which isn't used otherwise."""
@@ -45,7 +46,7 @@ class Sockets(unittest.TestCase):
             make()
             run = self.account.run("--why")
             self.assertEqual((run.status, run.err.decode().splitlines()),
-                             (1, [f"getmail: cannot connect to {self.path}", *self.told(f"{self.path}: {reason}")]))
+                             (1, [f"getmail: cannot connect to {self.path}", *self.told(f"{self.path}: {reason}", START)]))
 
     def test_a_path_that_is_too_long(self):
         path = "/" + "x" * 107

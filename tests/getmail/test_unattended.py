@@ -204,7 +204,7 @@ class Unattended(unittest.TestCase):
         self.account.rcfile.write_bytes(self.account.rcfile.read_bytes() + b"received = true\n")
         self.account.rcfile.chmod(0o644)
         warnings = ["getmail: warning: line 14: options.received has no effect",
-                    f"getmail: warning: others than its owner may read or write {self.account.rcfile}"]
+                    self.line(f"warning: others than its owner may read or write {self.account.rcfile}: chmod 600 ends that")]
         self.assertEqual(self.session(), (0, warnings))
         self.assertEqual(self.session(), (0, []))
         self.account.rcfile.write_bytes(self.account.rcfile.read_bytes() + b"timeout = 5\n")
@@ -231,7 +231,7 @@ class Unattended(unittest.TestCase):
     def test_a_server_that_cannot_be_reached(self):
         self.server.socket.close()
         run = self.run_getmail()
-        self.assertEqual((run.status, len(run.err.splitlines())), (1, 2))
+        self.assertEqual((run.status, len(run.err.splitlines())), (1, 3))
         self.assertEqual(self.run_getmail(), programs.Run(1, b"", b""))
 
     def session_with_room(self, octets):

@@ -117,7 +117,7 @@ class Weeks(unittest.TestCase):
         box.write(box.good.replace("port = ", "port = x"))
         name = str(box.rcfile)
         saved, box.memory.name = box.memory.name, name
-        self.check(box, Said(fault=("getmail: retriever.port has a bad value", "getmail: line 4: port: 1 to 65535; "
+        self.check(box, Said(fault=("getmail: retriever.port has a bad value", f"getmail: {name}: line 4: port: 1 to 65535; "
                                     "a comment has a line of its own")), connects=False, is_kept=is_kept)
         box.memory.name = saved
         box.write(box.good)

@@ -17,6 +17,7 @@ NO_MEMBER = "No such file or directory"
 PASSWORD = "username or password is wrong; in the rc file a comment has a line of its own"
 MAILDIR = "mkdir -p makes it: a Maildir is a folder with the folders cur, new and tmp"
 TUNNEL = "the tunnel's own log says why: journalctl --user -u getmail-tunnel, or the file that stunnel.conf names"
+START = "is the tunnel started? systemctl --user start getmail-tunnel.socket, or stunnel ~/.getmail/stunnel.conf"
 
 
 class Sessions(unittest.TestCase):
@@ -174,7 +175,11 @@ class BeforeSessions(unittest.TestCase):
         self.account.rcfile.write_bytes(text.replace(old, new))
 
     def test_a_connection_that_is_refused(self):
-        self.check_told(1, f"cannot connect to {LOOPBACK}:1", f"u@{LOOPBACK}:1: {LOOPBACK}:1: Connection refused")
+        """By a port of this machine, where a tunnel may listen: how that is started. Of another machine nothing is known."""
+        self.check_told(1, f"cannot connect to {LOOPBACK}:1", f"u@{LOOPBACK}:1: {LOOPBACK}:1: Connection refused",
+                        f"u@{LOOPBACK}:1: {START}")
+        with Account(1, server="255.255.255.255") as self.account:
+            self.assertNotIn(b"tunnel", self.account.run("--why").err)
 
     def test_a_name_that_has_no_address(self):
         with Account(110, server="a..b") as self.account:
@@ -196,7 +201,7 @@ class BeforeSessions(unittest.TestCase):
             self.check_told(2, "opposite flags", told, words=(words,))
 
     def test_values_of_an_rc_file(self):
-        """Each line is named by its number and its key, and no value is shown."""
+        """Each line is named by its file, its number and its key, and no value is shown."""
         number = "1 to 65535"
         path = "a Maildir's path ends in / and an mboxrd file's doesn't; it is one line with no $, and ~ only as ~/ in front"
         for old, new, fault, told in (
@@ -216,7 +221,7 @@ class BeforeSessions(unittest.TestCase):
                  "line 2: type: SimplePOP3Retriever; TLS needs a tunnel")):
             with self.subTest(new), Account(1) as self.account:
                 self.put(old, new)
-                self.check_told(2, fault, told + "; a comment has a line of its own")
+                self.check_told(2, fault, f"{self.account.rcfile}: {told}; a comment has a line of its own")
 
     def test_keys_that_are_missing(self):
         """The line of a key of one letter more, less or other is named; else the file is."""
@@ -225,7 +230,14 @@ class BeforeSessions(unittest.TestCase):
                           ("xpassword", meant), ("asswort", None), ("secret", None), ("passwrd1", None), ("passwordxy", None)):
             with self.subTest(new), Account(1) as self.account:
                 self.put(b"password", new.encode())
-                self.check_told(2, "retriever.password missing", told or str(self.account.rcfile))
+                rcfile = str(self.account.rcfile)
+                self.check_told(2, "retriever.password missing", f"{rcfile}: {told}" if told else rcfile)
+
+    def test_a_home_that_is_not_set(self):
+        for words in ((), ("-g", self.account.folder)):
+            run = self.account.run("--why", *words, HOME=None)
+            told = "~/ begins in it, and so does the folder ~/.getmail: set it, or give --getmaildir and full paths"
+            self.assertEqual((run.status, run.err.decode()), (2, f"getmail: HOME is not set\ngetmail: {told}\n"))
 
     def test_a_section_that_is_missing(self):
         self.put(b"[destination]", b"[Destination]")
@@ -236,24 +248,29 @@ class BeforeSessions(unittest.TestCase):
             with self.subTest(port), Account(port, server="255.255.255.255") as account:
                 run = account.run("--why")
                 self.assertEqual(run.err.decode().splitlines()[:2],
-                                 [f"getmail: warning: port {port} is for TLS, which getmail doesn't speak: use a tunnel",
+                                 [f"getmail: u@255.255.255.255:{port}: warning: port {port} is for TLS, which getmail doesn't "
+                                  "speak: use a tunnel",
                                   f"getmail: cannot connect to 255.255.255.255:{port}"])
                 self.assertEqual(account.run().err.decode(), f"getmail: cannot connect to 255.255.255.255:{port}\n")
 
     def test_no_line_of_a_password_is_shown(self):
         self.put(b"port = 1", b"port = 0")
         self.put(b"password = sesame\n", b"password = sesame\n  port = hidden\n\tport = hidden\n")
-        self.check_told(2, "retriever.port has a bad value", "line 4: port: 1 to 65535; a comment has a line of its own")
+        self.check_told(2, "retriever.port has a bad value",
+                        f"{self.account.rcfile}: line 4: port: 1 to 65535; a comment has a line of its own")
 
     def test_lines_of_an_rc_file(self):
         self.put(b"password = sesame", b"password p")
-        self.check_told(2, "rc file line 6 not understood", "a line is empty, a comment, a [section], or KEY = VALUE in one; "
-                        "after a blank a value goes on")
-        self.account.rcfile.write_bytes(b"\xef\xbb\xbf[retriever]\n")
-        self.check_told(2, "rc file line 1 not understood", "the file begins with a byte order mark: save it without one")
+        rcfile = self.account.rcfile
+        self.check_told(2, "rc file line 6 not understood", f"{rcfile}: a line is empty, a comment, a [section], or KEY = VALUE in "
+                        "one; after a blank a value goes on")
+        rcfile.write_bytes(b"\xef\xbb\xbf[retriever]\n")
+        self.check_told(2, "rc file line 1 not understood",
+                        f"{rcfile}: the file begins with a byte order mark: save it without one")
 
     def test_an_rc_file_that_others_may_read(self):
-        warning = f"getmail: warning: others than its owner may read or write {self.account.rcfile}\n"
+        warning = (f"getmail: u@{LOOPBACK}:1: warning: others than its owner may read or write {self.account.rcfile}: "
+                   "chmod 600 ends that\n")
         for mode in (0o604, 0o602, 0o640, 0o620):
             self.account.rcfile.chmod(mode)
             run = self.account.run("--why")
@@ -261,7 +278,7 @@ class BeforeSessions(unittest.TestCase):
         self.assertEqual(self.account.run().err, f"getmail: cannot connect to {LOOPBACK}:1\n".encode())
         self.account.rcfile.rename(self.account.folder / "rc\nfile")
         run = self.account.run("--why", "-r", "rc\nfile")
-        self.assertIn(b"/rc\\x0afile\n", run.err)
+        self.assertIn(b"/rc\\x0afile: chmod 600 ends that\n", run.err)
         (self.account.folder / "rc\nfile").chmod(0o600)
         self.account.rcfile.symlink_to("rc\nfile")
         self.assertNotIn(b"warning", self.account.run("--why").err)

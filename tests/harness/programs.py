@@ -48,9 +48,9 @@ def path_of(name):
 
 
 def environment(**changes):
-    """This process's environment with `changes`, without what a caller may have preloaded."""
+    """This process's environment with `changes`, without what a caller may have preloaded and what is None."""
     kept = {key: value for key, value in os.environ.items() if key != "LD_PRELOAD"}
-    return {**kept, **changes}
+    return {key: value for key, value in {**kept, **changes}.items() if value is not None}
 
 
 def with_closed(closed, command):

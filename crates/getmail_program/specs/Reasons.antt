@@ -1,8 +1,7 @@
 -- Why a session was cut: the place of its fault, and what is known of the cause.
 use Rattle.std.specs.{
-  Prelude.{◌||◌, ◌&&◌, ◌==◌, ℕ, Bool, true, List, [], ◌++◌, bytes_eq, codes, length, nat_eq, if◌then◌else◌},
+  Prelude.{◌&&◌, ◌==◌, ℕ, Bool, true, List, [], ◌++◌, codes, length, if◌then◌else◌},
   Fmt.decimal,
-  List.starts_with,
   String.string_bytes,
 }
 use Rattle.rc_file.specs.declared.settings.{Dest.{Dest, TheVariants.{Maildir, Mboxrd}}, Settings.Settings}
@@ -14,6 +13,7 @@ use Rattle.fetch_session.specs.declared.{
   report.Outcome.{Outcome, TheVariants.Cut},
 }
 use Rattle.trace.specs.declared.talk.Said.{Said}
+use Rattle.getmail_setup.specs.Places.{account_name, is_local}
 use Rattle.getmail_program.specs.declared.findings.Findings.{Findings}
 use Rattle.fetch_session.specs.declared.fault.Why.TheVariants as why
 
@@ -57,14 +57,7 @@ reason_text (BadSeen line) found = string_bytes found.record ++ codes ": a recor
 
 -- the line of a reason: the account, and the reason
 abbrev pub reason_line : Settings → List ℕ → List ℕ
-reason_line settings reason =
-    ((codes "getmail: " ++ (string_bytes settings.username ++ (codes "@" ++ (string_bytes settings.server
-    ++ (codes ":" ++ (decimal settings.port ++ codes ": ")))))) ++ reason) ++ codes "\n"
-
--- the server is on this machine, as a tunnel is: a socket's path, or a loopback address
-abbrev pub is_local : List ℕ → Bool
-is_local server = starts_with nat_eq server (codes "/") || (starts_with nat_eq server (codes "127.")
-    || (bytes_eq server (codes "localhost") || bytes_eq server (codes "::1")))
+reason_line settings reason = ((codes "getmail: " ++ (account_name settings ++ codes ": ")) ++ reason) ++ codes "\n"
 
 -- nothing was sent, and the server is on this machine
 abbrev pub is_by_a_tunnel : Settings → Findings → Bool
@@ -81,6 +74,11 @@ abbrev pub missing_hint : Dest → List ℕ
 missing_hint (Maildir path) = codes "mkdir -p makes it: a Maildir is a folder with the folders cur, new and tmp"
 missing_hint (Mboxrd path) = codes "touch makes it: an empty file is an mbox file"
 
+-- rights that are missing can be given
+abbrev pub rights_hint : Findings → List ℕ
+rights_hint found = if found.is_denied
+    then codes "it wants rights to read and write: chmod -R u+rwX gives them, if it is yours" else []
+
 -- what else may help, where there is one remedy
 abbrev pub hint_text : Settings → Fault → Findings → List ℕ
 hint_text settings ConnectionEnded found = tunnel_hint settings found
@@ -90,6 +88,8 @@ hint_text settings BadReply found = if length found.said.command.items == 0
 hint_text settings (Refused Pass) found =
     codes "username or password is wrong; in the rc file a comment has a line of its own"
 hint_text settings (StoreRefused why.Missing) found = missing_hint settings.dest
+hint_text settings (StoreRefused why.Refused) found = rights_hint found
+hint_text settings SeenRefused found = rights_hint found
 hint_text settings TextTooLong found = codes "max_message_size passes such a message over"
 hint_text settings fault found = []
 

@@ -15,7 +15,7 @@ use crate::reason::line_of;
 use crate::told::{RunTerms, Told, hold};
 use fetch_rules::Settings;
 use fetch_session::{Account, LeftOut, Store};
-use getmail_setup::{Errors, Output, Paths, ShownWire, Subject};
+use getmail_setup::{Errors, Output, Paths, ShownWire, Subject, tell_reason};
 use mail_store::{FlatFile, MaildirDisk};
 use pop3_wire::Wire;
 use run_memory::Counts;
@@ -76,6 +76,9 @@ fn tell_store_refusal<E: Write>(alloc: Global, settings: &Settings, errors: &mut
     }
 }
 
+/// Before the path of the file in which is kept what was cut off from an mboxrd file.
+const KEPT: &str = "what was cut off from the mbox file is kept in ";
+
 /// Writes where is kept what was cut off from an mboxrd file; or what bears the name of a message in a
 /// Maildir and can't be opened, or refused the run: else nobody learns why that message isn't fetched, or why all
 /// later runs are refused too.
@@ -87,9 +90,12 @@ fn tell_store<'a, M: Devices<'a>, E: Write>(
     errors: &mut Errors<'_, E>,
 ) {
     if devices.keeps_rests(&left.store, left.fetched.is_idle) {
-        errors.err.put(b"getmail: what was cut off from the mbox file is kept in ");
-        errors.err.put(rests.as_bytes());
-        errors.err.put(b"\n");
+        tell_reason(
+            Some(&left.settings),
+            KEPT,
+            rests.as_bytes(),
+            &mut errors.err,
+        );
         errors.close(Subject::Notice);
     }
     for obstruction in devices.obstructions(&left.store) {

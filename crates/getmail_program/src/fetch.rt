@@ -154,7 +154,7 @@ fn stop_in_place<R: Files + AllocGlobal + Clone + Drop, E: Write>(
         Err(_) => return Some(fail(rt.alloc(), Failure::NoMemory, None, errors)),
     };
     let failure = Failure::OtherList(list.as_str(), setup.paths.record.as_str());
-    Some(fail(rt.alloc(), failure, None, errors))
+    Some(fail(rt.alloc(), failure, Some(&setup.settings), errors))
 }
 
 /// Sets a run up from the rc file that the words name, and takes its lock. If it isn't to go on, says why, and returns

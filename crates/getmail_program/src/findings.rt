@@ -14,6 +14,8 @@ pub struct Findings {
     pub said: Said,
     /// What the system refused to the device that the fault is of, and what it said.
     pub refused: Vec<u8>,
+    /// Whether it refused that for want of rights.
+    pub is_denied: bool,
     /// The destination's path.
     pub destination: String,
     /// The record's path.
@@ -30,8 +32,8 @@ fn waited(alloc: Global, refusal: &Refusal) -> Result<Vec<u8>, AllocError> {
     Vec::from_slice(alloc, text.as_bytes())
 }
 
-/// The folder of a Maildir in which something is missing, of which the path leads there; the path itself if it
-/// leads nowhere below the destination.
+/// The folder of a Maildir in which something is missing or may not be written, of which the path leads there; the
+/// path itself if it leads nowhere below the destination.
 fn folder_in<'a>(path: &'a str, destination: &str) -> &'a str {
     let Some(below) = path.strip_prefix(destination) else {
         return path;
@@ -42,50 +44,79 @@ fn folder_in<'a>(path: &'a str, destination: &str) -> &'a str {
     path.get(..front.saturating_add(end)).unwrap_or(path)
 }
 
-/// A refusal whose path is that of the folder that is missing, and not of a file that was never there.
-fn of_folder(alloc: Global, refusal: Refusal, destination: &str) -> Refusal {
-    match String::from_str(alloc, folder_in(refusal.path.as_str(), destination)) {
-        Ok(path) => Refusal {
-            path,
-            error: refusal.error,
-        },
-        Err(_) => refusal,
+/// The folder of a Maildir that may not be read or written, of which the path leads there. A name goes from `tmp` to
+/// `new`, and which of them refused it isn't known: then it is the Maildir.
+fn denied_in<'a>(path: &'a str, destination: &'a str) -> &'a str {
+    let folder = folder_in(path, destination);
+    if folder.ends_with("/tmp") {
+        destination
+    } else {
+        folder
     }
 }
 
-/// What was refused last, in words. An unattended run takes faults of one path for the same.
-fn refused<E>(alloc: Global, refusal: Option<Refusal>, errors: &Errors<'_, E>) -> Vec<u8> {
-    if let Some(refusal) = refusal {
-        if let Some(journal) = errors.journal {
-            journal.note_place(refusal.path.as_str());
-        }
-        if let Ok(text) = waited(alloc, &refusal) {
-            return text;
-        }
+/// The folder of the record, if a path isn't the record's.
+fn record_folder<'a>(path: &'a str, record: &str) -> &'a str {
+    if path == record {
+        return path;
     }
-    Vec::new(alloc)
+    match path.rsplit_once('/') {
+        Some((folder, _)) => folder,
+        None => path,
+    }
 }
 
-/// What was refused to the device that a fault is of.
-fn refused_for<E>(
+/// Whether something was refused for want of rights.
+fn is_denied(refusal: &Refusal) -> bool {
+    refusal.error.kind() == ErrorKind::PermissionDenied
+}
+
+/// Whether a refusal is about the folder of its path, and not about a file that was never there.
+fn is_of_folder(refusal: &Refusal, fault: &Fault) -> bool {
+    matches!(fault, Fault::StoreRefused(Why::Missing)) || is_denied(refusal)
+}
+
+/// What was refused to the device that a fault is of. Its path is that of the folder in which something is missing or
+/// may not be written, and not of a file that was never there.
+fn refusal_for<E>(
     alloc: Global,
     errors: &Errors<'_, E>,
     fault: &Fault,
-    destination: &str,
-) -> Vec<u8> {
+    terms: &RunTerms<'_>,
+) -> Option<Refusal> {
     let reasons = errors.reasons;
-    match fault {
-        Fault::ReadFailed | Fault::WriteFailed => refused(alloc, reasons.link.take(), errors),
-        Fault::StoreRefused(Why::Missing) => {
-            let refusal = match reasons.store.take() {
-                Some(refusal) => Some(of_folder(alloc, refusal, destination)),
-                None => None,
-            };
-            refused(alloc, refusal, errors)
-        }
-        Fault::StoreRefused(Why::Refused) => refused(alloc, reasons.store.take(), errors),
-        Fault::SeenRefused => refused(alloc, reasons.record.take(), errors),
-        _ => Vec::new(alloc),
+    let refusal = match fault {
+        Fault::ReadFailed | Fault::WriteFailed => return reasons.link.take(),
+        Fault::StoreRefused(Why::Missing | Why::Refused) => reasons.store.take()?,
+        Fault::SeenRefused => reasons.record.take()?,
+        _ => return None,
+    };
+    if !is_of_folder(&refusal, fault) {
+        return Some(refusal);
+    }
+    let path = refusal.path.as_str();
+    let folder = match fault {
+        Fault::SeenRefused => record_folder(path, terms.record),
+        _ if is_denied(&refusal) => denied_in(path, terms.destination),
+        _ => folder_in(path, terms.destination),
+    };
+    match String::from_str(alloc, folder) {
+        Ok(path) => Some(Refusal {
+            path,
+            error: refusal.error,
+        }),
+        Err(_) => Some(refusal),
+    }
+}
+
+/// What was refused, in words. An unattended run takes faults of one path for the same.
+fn refused<E>(alloc: Global, refusal: &Refusal, errors: &Errors<'_, E>) -> Vec<u8> {
+    if let Some(journal) = errors.journal {
+        journal.note_place(refusal.path.as_str());
+    }
+    match waited(alloc, refusal) {
+        Ok(text) => text,
+        Err(_) => Vec::new(alloc),
     }
 }
 
@@ -102,6 +133,7 @@ fn nothing(alloc: Global) -> Findings {
     Findings {
         said: Said::new(alloc),
         refused: Vec::new(alloc),
+        is_denied: false,
         destination: String::new(alloc),
         record: String::new(alloc),
     }
@@ -114,13 +146,19 @@ pub fn findings_on<E>(
     terms: &RunTerms<'_>,
     errors: &Errors<'_, E>,
 ) -> Findings {
-    match (outcome, errors.says_why) {
-        (Outcome::Cut(fault), true) => Findings {
-            said: errors.reasons.talk.take(),
-            refused: refused_for(alloc, errors, fault, terms.destination),
-            destination: copied(alloc, terms.destination),
-            record: copied(alloc, terms.record),
-        },
-        _ => nothing(alloc),
+    let (Outcome::Cut(fault), true) = (outcome, errors.says_why) else {
+        return nothing(alloc);
+    };
+    let mut found = Findings {
+        said: errors.reasons.talk.take(),
+        refused: Vec::new(alloc),
+        is_denied: false,
+        destination: copied(alloc, terms.destination),
+        record: copied(alloc, terms.record),
+    };
+    if let Some(refusal) = refusal_for(alloc, errors, fault, terms) {
+        found.refused = refused(alloc, &refusal, errors);
+        found.is_denied = is_denied(&refusal);
     }
+    found
 }

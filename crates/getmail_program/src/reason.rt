@@ -1,12 +1,13 @@
 //! The lines after a fault's: the account, and the reason.
 ghost use Rattle.std.specs.{Prelude.{◌≡◌, ◌++◌, IfOk, codes}, String.string_bytes};
-ghost use Rattle.getmail_program.specs.Reasons.{hint_text, is_by_a_tunnel, is_local, line_if_any, or_else, place_in};
+ghost use Rattle.getmail_program.specs.Reasons.{hint_text, is_by_a_tunnel, line_if_any, or_else, place_in, rights_hint};
 ghost use Rattle.getmail_program.specs.Reasons.{missing_hint, reason_line, reason_text, reasons_of, reasons_said};
 ghost use Rattle.getmail_program.specs.Reasons.{rows_text, tunnel_hint};
 
 use crate::findings::Findings;
 use fetch_rules::{Dest, Settings};
 use fetch_session::{Fault, Outcome, Why};
+use getmail_setup::{account_name, is_near};
 use pop3_client::Asked;
 use std::alloc::{AllocError, Global};
 use trace::Said;
@@ -130,17 +131,6 @@ fn reason_text(alloc: Global, fault: &Fault, found: &Findings) -> Result<Vec<u8>
     }
 }
 
-/// Whether a server is on this machine, as a tunnel is: a socket's path, or a loopback address.
-fn is_near(server: &str) -> bool
-    ensures { result ≡ is_local server.now }
-{
-    let octets = server.as_bytes();
-    octets.starts_with(b"/")
-        || octets.starts_with(b"127.")
-        || server == "localhost"
-        || server == "::1"
-}
-
 /// Whether nothing was sent, and the server is on this machine.
 fn is_by_a_tunnel(settings: &Settings, found: &Findings) -> bool
     ensures { result ≡ is_by_a_tunnel settings.now found.now }
@@ -171,6 +161,17 @@ fn missing_hint(dest: &Dest) -> &'static str
     }
 }
 
+/// How rights that are missing are given.
+fn rights_hint(found: &Findings) -> &'static str
+    ensures { result.now ≡ rights_hint found.now }
+{
+    if found.is_denied {
+        "it wants rights to read and write: chmod -R u+rwX gives them, if it is yours"
+    } else {
+        ""
+    }
+}
+
 /// What else may help, where there is one remedy; empty if nothing is known to.
 fn hint_text(settings: &Settings, fault: &Fault, found: &Findings) -> &'static str
     ensures { result.now ≡ hint_text settings.now fault.now found.now }
@@ -184,6 +185,7 @@ fn hint_text(settings: &Settings, fault: &Fault, found: &Findings) -> &'static s
             "username or password is wrong; in the rc file a comment has a line of its own"
         }
         Fault::StoreRefused(Why::Missing) => missing_hint(&settings.dest),
+        Fault::StoreRefused(Why::Refused) | Fault::SeenRefused => rights_hint(found),
         Fault::TextTooLong => "max_message_size passes such a message over",
         _ => "",
     }
@@ -193,14 +195,9 @@ fn hint_text(settings: &Settings, fault: &Fault, found: &Findings) -> &'static s
 pub fn line_of(alloc: Global, settings: &Settings, reason: &[u8]) -> Result<Vec<u8>, AllocError>
     ensures { IfOk result (λ line. line.items ≡ reason_line settings.now reason.now) }
 {
-    let Settings {
-        server,
-        port,
-        username,
-        ..
-    } = settings;
-    let account = format!(in alloc; "getmail: {username}@{server}:{port}: ")?;
-    let mut line = Vec::from_slice(alloc, account.as_bytes())?;
+    let account = account_name(alloc, settings)?;
+    let front = format!(in alloc; "getmail: {account}: ")?;
+    let mut line = Vec::from_slice(alloc, front.as_bytes())?;
     line.extend_from_slice(reason)?;
     line.extend_from_slice(b"\n")?;
     Ok(line)

@@ -51,9 +51,3 @@ pub puts_five : {W : Type 0} (contents : W → Option (List ℕ)) (a b c d e f :
 puts_five contents a b c d e f first second third fourth fifth one two three four five =
     puts_both contents a b f first _ one
     (puts_both contents b c f second _ two (puts_three contents c d e f third fourth fifth three four five))
-
-pub puts_six : {W : Type 0} (contents : W → Option (List ℕ)) (a b c d e f g : Output W) (first second third fourth fifth sixth : List ℕ)
-    → Puts contents a first b → Puts contents b second c → Puts contents c third d → Puts contents d fourth e → Puts contents e fifth f
-    → Puts contents f sixth g → Puts contents a (first ++ (second ++ (third ++ (fourth ++ (fifth ++ sixth))))) g
-puts_six contents a b c d e f g first second third fourth fifth sixth one two three four five six =
-    puts_both contents a b g first _ one (puts_five contents b c d e f g second third fourth fifth sixth two three four five six)

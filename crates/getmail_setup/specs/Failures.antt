@@ -1,13 +1,11 @@
 -- The lines and the exit statuses of runs that end before their session.
 use Rattle.std.specs.{
-  Prelude.{◌≡◌, ◌⊎◌, ℕ, Bool, true, false, List, [], ◌++◌, Option, None, Some, codes},
-  Fmt.decimal,
-  String.string_bytes,
+  Prelude.{◌≡◌, ◌⊎◌, ℕ, Bool, true, false, List, [], ◌++◌, Option, None, Some, codes, if◌then◌else◌},
 }
 use Rattle.rc_file.specs.{RcText.rc_text, declared.{fault.RcFault.RcFault, settings.Settings.Settings}}
 use Rattle.getmail_setup.specs.{
   Output.Puts,
-  Places.peer_name,
+  Places.{account_name, is_local, peer_name},
   declared.errors.Errors.Errors,
   declared.failure.Failure.{Failure, TheVariants.{NoHome, CannotRead, Rc, OtherList, AtWork, CannotConnect, NoMemory}},
 }
@@ -50,8 +48,7 @@ IsFailureLine NoMemory line = line ≡ out_of_memory
 -- the account that a reason is about, if it is known
 abbrev pub account_front : Option Settings → List ℕ
 account_front None = []
-account_front (Some settings) = string_bytes settings.username ++ (codes "@" ++ (string_bytes settings.server
-    ++ (codes ":" ++ (decimal settings.port ++ codes ": "))))
+account_front (Some settings) = account_name settings ++ codes ": "
 
 -- a line with a reason after some words
 abbrev pub cause_line : Option Settings → List ℕ → List ℕ → List ℕ
@@ -63,13 +60,28 @@ network_warning false settings = []
 network_warning true settings = cause_line (Some settings) (codes "warning: ")
     (codes "password and mail go over the network unencrypted: use a tunnel")
 
+-- where HOME is needed, and what else gives its place
+abbrev pub home_reason : List ℕ
+home_reason = codes "~/ begins in it, and so does the folder ~/.getmail: set it, or give --getmaildir and full paths"
+
+-- what a first run in getmail6's place would do
+abbrev pub list_reason : List ℕ
+list_reason = codes "with read_all = false and no record, a run would fetch all its mail again"
+
 -- what follows a failure's line: one with its reason, if that is known and reasons are asked for
 abbrev pub IsToldCause : Bool → Option Settings → Failure → List ℕ → Type 0
 IsToldCause false account failure text = text ≡ []
-IsToldCause true account NoHome text = text ≡ []
-IsToldCause true account (OtherList list path) text = text ≡ []
+IsToldCause true account NoHome text = text ≡ cause_line account [] home_reason
+IsToldCause true account (OtherList list path) text = text ≡ cause_line account [] list_reason
 IsToldCause true account NoMemory text = text ≡ []
 IsToldCause true account failure text = (text ≡ []) ⊎ ((reason : List ℕ) × (text ≡ cause_line account [] reason))
+
+-- a tunnel that isn't started takes no connection: how it is started, if reasons are asked for
+abbrev pub start_hint : Bool → Option Settings → Failure → List ℕ
+start_hint true account (CannotConnect server port) = if is_local server.now then cause_line account []
+    (codes "is the tunnel started? systemctl --user start getmail-tunnel.socket, or stunnel ~/.getmail/stunnel.conf")
+    else []
+start_hint asked account failure = []
 
 -- a failure's line was written, and then what follows it
 pub record TellsFailure {E : Type 0} (contents : E → Option (List ℕ)) (account : Option Settings) (failure : Failure)
@@ -78,4 +90,4 @@ pub record TellsFailure {E : Type 0} (contents : E → Option (List ℕ)) (accou
   pub is_line : IsFailureLine failure line
   pub cause : List ℕ
   pub is_cause : IsToldCause old.says_why account failure cause
-  pub puts : Puts contents old.err (line ++ cause) new.err
+  pub puts : Puts contents old.err (line ++ (cause ++ start_hint old.says_why account failure)) new.err

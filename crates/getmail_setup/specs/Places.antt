@@ -1,7 +1,7 @@
 -- Paths of the program's files.
 use Rattle.std.specs.{
-  Prelude.{◌≡◌, ◌+◌, ℕ, Bool, false, Ok, ◌||◌, nat_eq, List, [], ◌++◌, drop, Option, Some, None, option_map, codes},
-  Prelude.if◌then◌else◌,
+  Prelude.{◌≡◌, ◌+◌, ℕ, Bool, false, Ok, ◌||◌, nat_eq, List, [], ◌++◌, bytes_eq, drop, Option, Some, None, option_map},
+  Prelude.{codes, if◌then◌else◌},
   Fmt.decimal,
   String.string_bytes,
   List.{starts_with, ends_with},
@@ -53,6 +53,16 @@ is_socket server = starts_with nat_eq server (codes "/")
 -- what a connection is called in a trace: a socket's path, or an address with its port
 abbrev pub peer_name : List ℕ → ℕ → List ℕ
 peer_name server port = if is_socket server then server else server ++ (codes ":" ++ decimal port)
+
+-- what an account is called in the lines about it
+abbrev pub account_name : Settings → List ℕ
+account_name settings =
+    string_bytes settings.username ++ (codes "@" ++ peer_name (string_bytes settings.server) settings.port)
+
+-- a server is on this machine, as a tunnel is: a socket's path, or a loopback address
+abbrev pub is_local : List ℕ → Bool
+is_local server = is_socket server || (starts_with nat_eq server (codes "127.")
+    || (bytes_eq server (codes "localhost") || bytes_eq server (codes "::1")))
 
 -- the digits that tell the account of the settings apart
 abbrev pub account_digits : Settings → List ℕ

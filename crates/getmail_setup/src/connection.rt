@@ -1,7 +1,7 @@
 //! The connection to the server: over TCP, or to a Unix socket on which a tunnel listens.
 ghost use Rattle.std.specs.{Prelude.{◌≡◌, IfOk, false, true}, String.string_bytes};
 ghost use Rattle.trace.specs.Wire.{Hides};
-ghost use Rattle.getmail_setup.specs.Places.{is_socket, peer_name};
+ghost use Rattle.getmail_setup.specs.Places.{account_name, is_local, is_socket, peer_name};
 
 use crate::errors::Errors;
 use crate::failure::{Failure, failure_of};
@@ -64,6 +64,16 @@ pub fn is_socket(server: &str) -> bool
     ensures { result ≡ is_socket server.now }
 {
     server.as_bytes().starts_with(b"/")
+}
+
+/// Whether a server is on this machine, as a tunnel is: a socket's path, or a loopback address.
+pub fn is_near(server: &str) -> bool
+    ensures { result ≡ is_local server.now }
+{
+    is_socket(server)
+        || server.as_bytes().starts_with(b"127.")
+        || server == "localhost"
+        || server == "::1"
 }
 
 /// A connection to the server.
@@ -139,6 +149,15 @@ fn peer_name(alloc: Global, server: &str, port: u16) -> Result<String, AllocErro
         return String::from_str(alloc, server);
     }
     format!(in alloc; "{server}:{port}")
+}
+
+/// What an account is called in the lines about it.
+pub fn account_name(alloc: Global, settings: &Settings) -> Result<String, AllocError>
+    ensures { IfOk result (λ name. string_bytes name ≡ account_name settings.now) }
+{
+    let peer = peer_name(alloc, settings.server.as_str(), settings.port)?;
+    let username = settings.username.as_str();
+    format!(in alloc; "{username}@{peer}")
 }
 
 /// What the link needs. It is made before there is a connection, so that want of memory doesn't end one.

@@ -1,11 +1,12 @@
 //! What a run writes to standard error before its session, and what it keeps of refused calls.
 ghost use Rattle.std.specs.Prelude.{◌≡◌, ◌≤◌, ℕ, List, option_map};
 ghost use Rattle.getmail_setup.specs.{
-  Failures.{IsToldCause, TellsFailure, account_front, cause_line, network_warning, status_of},
+  Failures.{IsToldCause, TellsFailure, account_front, cause_line, network_warning, start_hint, status_of},
   Output.Puts,
 };
 
-use crate::failure::{Failure, tell};
+use crate::connection::is_near;
+use crate::failure::{Failure, put_peer, tell};
 use crate::journal::{Journal, Subject};
 use crate::output::Output;
 use fetch_rules::Settings;
@@ -81,6 +82,18 @@ impl<'a, E: Write + Copy> Errors<'a, E> {
     }
 }
 
+/// Where HOME is needed, and what else gives its place.
+const HOME_REASON: &str =
+    "~/ begins in it, and so does the folder ~/.getmail: set it, or give --getmaildir and full paths";
+
+/// What a first run in getmail6's place would do.
+const LIST_REASON: &str =
+    "with read_all = false and no record, a run would fetch all its mail again";
+
+/// How a tunnel is started.
+const START: &str =
+    "is the tunnel started? systemctl --user start getmail-tunnel.socket, or stunnel ~/.getmail/stunnel.conf";
+
 /// What was asked of the system before the session and what it said.
 fn refused_before(alloc: Global, reasons: &Reasons) -> Option<Vec<u8>> {
     reasons.before.take()?.text(alloc).ok()
@@ -99,14 +112,37 @@ fn tell_cause<E: Write>(
 {
     let reasons = errors.reasons;
     let reason = match (errors.says_why, failure) {
-        (false, _) => None,
-        (_, Failure::NoHome | Failure::NoMemory | Failure::OtherList(_, _)) => None,
+        (false, _) | (_, Failure::NoMemory) => None,
+        (_, Failure::NoHome) => {
+            return tell_reason(account, "", HOME_REASON.as_bytes(), &mut errors.err);
+        }
+        (_, Failure::OtherList(_, _)) => {
+            return tell_reason(account, "", LIST_REASON.as_bytes(), &mut errors.err);
+        }
         (_, Failure::Rc(_)) => reasons.rule.take(),
         _ => refused_before(alloc, reasons),
     };
     match reason {
         Some(reason) => tell_reason(account, "", &reason, &mut errors.err),
         None => errors.err.put(b""),
+    }
+}
+
+/// Writes how a tunnel is started, if none took a connection and reasons are to be written.
+fn tell_hint<E: Write>(
+    says_why: bool,
+    failure: Failure<'_>,
+    account: Option<&Settings>,
+    err: &mut Output<E>,
+)
+    ensures { Puts E.contents err.old
+        (start_hint says_why (option_map (λ settings. settings.now) account.entry) failure.entry) err.new }
+{
+    match (says_why, failure) {
+        (true, Failure::CannotConnect(server, _)) if is_near(server) => {
+            tell_reason(account, "", START.as_bytes(), err)
+        }
+        _ => err.put(b""),
     }
 }
 
@@ -119,14 +155,12 @@ fn put_account<E: Write>(account: Option<&Settings>, err: &mut Output<E>)
     };
     err.put(settings.username.as_bytes());
     err.put(b"@");
-    err.put(settings.server.as_bytes());
-    err.put(b":");
-    err.put_number(Some(u32::from(settings.port)));
+    put_peer(settings.server.as_str(), settings.port, err);
     err.put(b": ");
 }
 
 /// Writes a line with these words and a reason.
-fn tell_reason<E: Write>(
+pub fn tell_reason<E: Write>(
     account: Option<&Settings>,
     words: &str,
     reason: &[u8],
@@ -184,8 +218,10 @@ pub fn fail<E: Write>(
         failure.entry errors.old
         errors.new }
 {
+    let says_why = errors.says_why;
     let status = tell(alloc, failure, &mut errors.err);
     tell_cause(alloc, failure, account, errors);
+    tell_hint(says_why, failure, account, &mut errors.err);
     errors.close(Subject::Fault);
     status
 }

@@ -117,7 +117,7 @@ fn tell_other_list<E: Write>(list: &str, path: &str, err: &mut Output<E>)
 }
 
 /// Writes the name of a peer: a socket's path, or an address with its port.
-fn put_peer<E: Write>(server: &str, port: u16, err: &mut Output<E>)
+pub(crate) fn put_peer<E: Write>(server: &str, port: u16, err: &mut Output<E>)
     ensures { Puts E.contents err.old (peer_name server.now port) err.new }
 {
     if is_socket(server) {

@@ -1,4 +1,5 @@
 //! What an unattended run says, kept until it is decided what of it is told.
+use crate::connection::account_name;
 use crate::listed::{Large, Listed};
 use fetch_rules::{Settings, Skip, Step};
 use run_memory::Counts;
@@ -138,13 +139,7 @@ impl Journal {
 
     /// The name of the account, as lines have it.
     pub fn note_account(&self, settings: &Settings) {
-        let Settings {
-            server,
-            port,
-            username,
-            ..
-        } = settings;
-        if let Ok(account) = format!(in self.alloc; "{username}@{server}:{port}") {
+        if let Ok(account) = account_name(self.alloc, settings) {
             if let Ok(account) = Vec::from_slice(self.alloc, account.as_bytes()) {
                 self.account.set(account);
             }

@@ -16,8 +16,10 @@ mod setup;
 mod shown_wire;
 mod words;
 
-pub use connection::{Connection, Link, Peer, SILENT, connect, link_over, peer_of};
-pub use errors::{Errors, Reasons, fail, warn_of_network};
+pub use connection::{
+    Connection, Link, Peer, SILENT, account_name, connect, is_near, link_over, peer_of,
+};
+pub use errors::{Errors, Reasons, fail, tell_reason, warn_of_network};
 pub use failure::{Failure, OUT_OF_MEMORY, explain, failure_of, tell};
 pub use in_place::other_list;
 pub use journal::{Journal, Kept, LeftOut, Part, Subject};

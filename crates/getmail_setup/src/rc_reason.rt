@@ -158,6 +158,23 @@ fn reason_of(
     }
 }
 
+/// That reason after the path of the file, unless it is the path or about flags alone.
+fn reason_in(
+    alloc: Global,
+    words: &Words,
+    file: RcFile<'_>,
+    fault: &RcFault,
+) -> Result<Vec<u8>, AllocError> {
+    let reason = reason_of(alloc, words, file.path, file.bytes, fault)?;
+    let mut text = path_reason(alloc, file.path)?;
+    if matches!(fault, RcFault::Contradiction) || reason == text {
+        return Ok(reason);
+    }
+    text.extend_from_slice(b": ")?;
+    text.extend_from_slice(&reason)?;
+    Ok(text)
+}
+
 /// Keeps the reason of a fault of an rc file, or of the flags. Without memory it isn't kept.
 pub fn keep_reason(
     alloc: Global,
@@ -166,7 +183,5 @@ pub fn keep_reason(
     file: RcFile<'_>,
     words: &Words,
 ) {
-    reasons
-        .rule
-        .set(reason_of(alloc, words, file.path, file.bytes, fault).ok());
+    reasons.rule.set(reason_in(alloc, words, file, fault).ok());
 }

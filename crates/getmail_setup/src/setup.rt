@@ -11,7 +11,7 @@ ghost use Rattle.getmail_setup.specs.{
 };
 
 use crate::connection::is_socket;
-use crate::errors::Errors;
+use crate::errors::{Errors, tell_reason};
 use crate::failure::{Failure, failure_of};
 use crate::journal::Subject;
 use crate::place::{folder, joined, rc_file, whole_path};
@@ -32,6 +32,9 @@ const RC_ROOM: u64 = 65_537;
 
 /// The warning of a file that others may read, before its path.
 const OTHERS: &str = "warning: others than its owner may read or write ";
+
+/// What mends that.
+const PRIVATE: &[u8] = b": chmod 600 ends that";
 
 /// What the warning of a port for TLS ends with.
 const NO_TLS: &str = "which getmail doesn't speak: use a tunnel";
@@ -60,11 +63,9 @@ pub struct Setup {
     pub pretends: bool,
 }
 
-/// Writes a warning.
-fn put_warning<E: Write>(text: &[u8], errors: &mut Errors<'_, E>) {
-    errors.err.put(b"getmail: ");
-    errors.err.put(text);
-    errors.err.put(b"\n");
+/// Writes a warning, about an account if it is known.
+fn put_warning<E: Write>(account: Option<&Settings>, text: &[u8], errors: &mut Errors<'_, E>) {
+    tell_reason(account, "", text, &mut errors.err);
     errors.close(Subject::Notice);
 }
 
@@ -78,7 +79,7 @@ fn tell_warnings<'a, E: Write>(
 {
     for warning in warnings {
         let text = warning_text(alloc, warning)?;
-        put_warning(text.as_bytes(), errors);
+        put_warning(None, text.as_bytes(), errors);
     }
     Ok(())
 }
@@ -91,17 +92,26 @@ fn is_others_too<R: Files>(rt: &R, path: &str) -> bool {
     }
 }
 
+/// The warning of a file that others may read.
+fn others_text(alloc: Global, path: &str) -> Result<Vec<u8>, AllocError> {
+    let line = line_text(alloc, OTHERS, path.as_bytes())?;
+    let mut text = Vec::from_slice(alloc, line.trim_ascii_end())?;
+    text.extend_from_slice(PRIVATE)?;
+    Ok(text)
+}
+
 /// Warns if others may read or write the rc file, which has a password.
 fn warn_of_others<R: Files + AllocGlobal, E: Write>(
     rt: &R,
     path: &str,
+    settings: &Settings,
     errors: &mut Errors<'_, E>,
 ) {
     if !is_others_too(rt, path) {
         return;
     }
-    if let Ok(line) = line_text(rt.alloc(), OTHERS, path.as_bytes()) {
-        put_warning(line.trim_ascii_end(), errors);
+    if let Ok(text) = others_text(rt.alloc(), path) {
+        put_warning(Some(settings), &text, errors);
     }
 }
 
@@ -112,7 +122,7 @@ fn warn_of_port<E: Write>(alloc: Global, settings: &Settings, errors: &mut Error
         return;
     }
     if let Ok(text) = format!(in alloc; "warning: port {port} is for TLS, {NO_TLS}") {
-        put_warning(text.as_bytes(), errors);
+        put_warning(Some(settings), text.as_bytes(), errors);
     }
 }
 
@@ -160,7 +170,7 @@ fn settings_of<'a, R: Files + AllocGlobal, S: ReadFile, E: Write>(
     if errors.says_why {
         match &settings {
             Ok(settings) => {
-                warn_of_others(rt, path, errors);
+                warn_of_others(rt, path, settings, errors);
                 warn_of_port(alloc, settings, errors);
             }
             Err(Failure::Rc(fault)) => {

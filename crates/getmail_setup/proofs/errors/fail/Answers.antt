@@ -1,4 +1,4 @@
-use Rattle.getmail_setup.proofs.OutputLemmas.{puts_both}
+use Rattle.getmail_setup.proofs.OutputLemmas.{puts_three}
 use Rattle.getmail_setup.proofs.errors.fail.Goals as goal
 
 pub returns-clause-told : goal.returns-clause-told
@@ -7,5 +7,5 @@ returns-clause-told g c = record {
   is_line = c.tell-status.ensures.line.1;
   cause = c.tell_cause.ensures.0;
   is_cause = c.tell_cause.ensures.1;
-  puts = puts_both g.E.Write.contents _ _ _ _ _ c.tell-status.ensures.line.2 c.tell_cause.ensures.2;
+  puts = puts_three g.E.Write.contents _ _ _ _ _ _ _ c.tell-status.ensures.line.2 c.tell_cause.ensures.2 c.tell_hint.ensures;
 }
