@@ -4,6 +4,7 @@
 """
 
 import contextlib
+import hashlib
 import os
 import random
 import resource
@@ -36,7 +37,8 @@ class Box:
         self.memory = Memory(self.user, LIMIT)
         self.delivered = set()
         self.count = 0
-        self.obstructed = set()
+        self.digest = hashlib.sha256(f"{LOOPBACK}\0{server.port}\0{name}".encode()).hexdigest()
+        self.obstructed, self.pipe = None, None
 
     def write(self, text):
         self.rcfile.write_text(text)
@@ -49,16 +51,32 @@ class Box:
         self.count += 1
         self.server.messages.append((b"%d" % self.count, text))
 
+    def wanted(self):
+        """The ids of the messages that are small enough and weren't delivered."""
+        return [uid for uid, text in self.server.messages if size_of(text) <= LIMIT and uid not in self.delivered]
+
+    def obstruct(self, uid):
+        """A pipe takes the name of a message's file."""
+        self.obstructed, self.pipe = uid, self.maildir / "new" / f"{self.digest}.{uid.hex()},S=1"
+        os.mkfifo(self.pipe)
+
+    def clear(self):
+        self.pipe.unlink()
+        self.obstructed, self.pipe = None, None
+
     def said_by_a_good_run(self):
         """What a run that ends says; the model of what is delivered goes on."""
         large = [(uid, number, size_of(text)) for number, (uid, text) in enumerate(self.server.messages, 1)
                  if size_of(text) > LIMIT]
-        small = [uid for uid, text in self.server.messages if size_of(text) <= LIMIT and uid not in self.delivered]
+        wanted = self.wanted()
+        small = [uid for uid in wanted if uid != self.obstructed]
+        lasting = [self.line(f"{self.pipe}: not a regular file")] * (len(wanted) - len(small))
         self.delivered |= set(small[:1])
         past = max(0, len(small) - 1)
-        counts = [f"{len(large)} too large"] * bool(large) + [f"{past} past the limit"] * bool(past)
+        counts = ["1 obstructed"] * len(lasting) + [f"{len(large)} too large"] * bool(large) + \
+            [f"{past} past the limit"] * bool(past)
         left_out = self.line(f"left out: {', '.join(counts)}") if counts else ""
-        return Said(large=large, past_limit=past, ends=True, left_out=left_out)
+        return Said(lasting=lasting, large=large, past_limit=past, ends=True, left_out=left_out)
 
 
 FAULTS = {
@@ -208,6 +226,10 @@ class Weeks(unittest.TestCase):
                 box.add(b"y" * chance.choice((1, 2 * LIMIT)) + b"\n")
             if box.server.messages and chance.random() < 0.2:
                 box.server.messages.pop(chance.randrange(len(box.server.messages)))
+            if box.pipe and chance.random() < 0.1:
+                box.clear()
+            elif not box.pipe and box.wanted() and chance.random() < 0.3:
+                box.obstruct(chance.choice(box.wanted()))
             self.good(box)
 
     def test_random_weeks(self):
