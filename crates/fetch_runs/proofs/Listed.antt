@@ -203,7 +203,7 @@ module _ (law : OneReading) (drop : List Message) where
       ((let are = same.0 in cc), same.1)
 
   -- a positive reply was granted
-  granted : (marks : List Bool) (command : Command) (bytes : List ℕ) (next : List Bool) (reply : WholeReply) (more tail : List ℕ)
+  pub granted : (marks : List Bool) (command : Command) (bytes : List ℕ) (next : List Bool) (reply : WholeReply) (more tail : List ℕ)
       → Reply drop marks command bytes next → IsGoodReply command reply → bytes ++ more ≡ reply_bytes reply ++ tail
       → Grants drop marks command (reply_bytes reply) next × (more ≡ tail)
   granted marks command bytes next reply more tail (inl ((after, (line, said)), stays)) good e =
@@ -219,7 +219,7 @@ module _ (law : OneReading) (drop : List Message) where
       let same = same_reply reply more tail look good e in
       (rw (look.whole, same.0) at grants, same.1)
 
-  walk : (marks last : List Bool) (commands : List Command) (replies : List WholeReply) (bytes later tail : List ℕ)
+  pub walk : (marks last : List Bool) (commands : List Command) (replies : List WholeReply) (bytes later tail : List ℕ)
       → Replies drop marks commands bytes last → AreGood commands replies
       → bytes ++ later ≡ flat_map reply_bytes replies ++ tail → AreGranted drop marks commands replies
   walk _ _ _ [] _ _ _ _ _ e = tt

@@ -2,7 +2,7 @@
 -- its plan or of the opening alone.
 use Rattle.std.{
   proofs.Common.{◌≡◌, inl, inr, ℕ, List, ◌∷◌, ◌++◌, map, Result, Ok, Err, ◌⊎◌, true, None, Some, refl, sym, ap, ◌∙◌, append_assoc, Bool},
-  proofs.Common.{Option, ◌≤◌, ◌+◌, length, arith, rules, take, ap₂, ⊎_elim, map-id, subst, cond, false, subst₂, []},
+  proofs.Common.{Option, ◌≤◌, ◌+◌, length, arith, rules, take, ap₂, ⊎_elim, map-id, subst, cond, false, subst₂, [], ◌≢◌},
   proofs.lemmas.List.{append-nil, append_cancel_left, Concat.{flat_map-append, flat_map_single}, Folds.flat_map-map, Sums.sum_by-append},
   specs.{List.{flat_map, count_by, AllByRecursion, AllZip, enumerate_from}, String.string_bytes},
 }
@@ -24,11 +24,12 @@ use Rattle.rc_file.specs.{declared.settings.Settings.Settings, Settings.IsValid}
 use Rattle.mail_store.specs.{FileName.{is_held, is_odd}, FlatFile.Stored}
 use Rattle.fetch_session.specs.{
   declared.{fault.{Cut.Cut, Fault.{Fault, TheVariants.Refused}}, report.{ReportLine.ReportLine, Skips.Skips, Report.Report}},
+  declared.report.Outcome.TheVariants.Ended,
   Fault.fault_of,
   Task.{Task, stores, rereads, Done, tasks_of, says, turns_in, turns_of, IsAnswered, tasks_planned, report_lines, lines_in},
   CarryingOut.{tasks_ahead, Carried, Carries, Prepared},
   Scene.{Scene, scene, Does},
-  Session.{Keeping, Dealt, Proceeds, LeavesLink, Enters_with, SessionIn, keeps_entries, keeps_files},
+  Session.{Keeping, Dealt, Proceeds, LeavesLink, Enters_with, SessionIn, keeps_entries, keeps_files, outcome_of},
   Target.{Target, AsFiles, AsEntries, Stores, odd_in},
   Tail.{tail, turns_of_tail as tail_turns},
   Opening.{opening, SessionOpened, Enters},
@@ -526,10 +527,21 @@ mbox_sessions_follow_plans laws settings now link before report link' after vali
     by Idle it = (it.sent, it.sent_is, [], follows_none laws settings valid (is_tail_for session.result) it)
     by (Deals c) p = (p.sent, p.sent_is, planned settings none_odd p.by.rows p.items now, p.follows)
 
+commands_of : (commands : List Command) → commands_in (map Some commands) ≡ commands
+commands_of [] = refl
+commands_of (command ∷ commands) = ap (λ (l : List Command). command ∷ l) (commands_of commands)
+
 pub sessions_are_conversations : Below → SessionsAreConversations
 sessions_are_conversations laws settings account now link before report link' after valid session =
-    by _ (session_spoke laws valid session)
+    by (course_of session) (λ idle ended. not_idle session.result session.proceeds idle (sym session.reports.outcome_is ∙ ended))
+    (session_spoke laws valid session)
   where
+    not_idle : (result : Result (Unit {0}) Cut) → (is : Proceeds settings (AsFiles account) now (at link []) (keeps_files before) result
+        session.mid (keeps_files after) session.notes) → course_proceeded settings (AsFiles account) now (at link [])
+        (keeps_files before) result session.mid (keeps_files after) session.notes is ≡ Idle → outcome_of result ≡ Ended → ⊥
+    not_idle (Ok done) is idle ended = cc
+    not_idle (Err cut) is idle ended = cc
+
     -- if the listing was joined
     by_plan : (c : Course) → (p : Planned settings (AsFiles account) now (keeps_files before) link link' session.result
         session.notes.lines c) → SpeaksByPlan settings account now before report p.sent p.got
@@ -562,23 +574,44 @@ sessions_are_conversations laws settings account now link before report link' af
       )) p.by.took.asks;
       ended = λ is.
           let whole = p.by.ahead.whole (sym session.reports.outcome_is ∙ is) in
-          (p.by.took.whole whole.0, ap (λ (ts : List Task). flat_map turns_in ts) whole.1);
+          let begun = p.by.took.whole whole.0 in
+          let later = ap (λ (ts : List Task). flat_map turns_in ts) whole.1 in
+          (begun, later, all_sent begun later (ap tail_behind (sym session.reports.outcome_is ∙ is)));
     }
       where
+        all_sent : p.by.took.begun ≡ [] → flat_map turns_in p.by.ahead.later ≡ [] → tail_for session.result ≡ []
+            → HasSent (plan_commands (name_of settings) (word_of settings)
+            (planned settings (is_odd account before.maildir) p.by.rows p.items now)) p.sent
+        all_sent begun later none =
+            let ahead = both_none p.whole.ahead p.whole.unsaid (sym p.whole.of_begun ∙ ap commands_in begun) in
+            let ends = both_none p.whole.ends p.whole.unended (sym p.whole.of_tail ∙ ap commands_in none) in
+            let done : plan_turns (name_of settings) (word_of settings)
+            (planned settings (is_odd account before.maildir) p.by.rows p.items now) ≡ opening_of settings ++ p.by.took.done =
+            p.split ∙ rw (begun, later) (append-nil (opening_of settings ++ p.by.took.done)) in
+            let plan : plan_commands (name_of settings) (word_of settings)
+            (planned settings (is_odd account before.maildir) p.by.rows p.items now) ≡ commands_in (opening_of settings ++ p.by.took.done) =
+            sym (commands_of (plan_commands (name_of settings) (word_of settings)
+            (planned settings (is_odd account before.maildir) p.by.rows p.items now))) ∙ ap commands_in done in
+            let same : commands_in (opening_of settings ++ p.by.took.done) ++ (p.whole.ahead ++ p.whole.ends)
+            ≡ plan_commands (name_of settings) (word_of settings)
+            (planned settings (is_odd account before.maildir) p.by.rows p.items now) =
+            rw (ahead.0, ends.0) (append-nil (commands_in (opening_of settings ++ p.by.took.done)) ∙ sym plan) in
+            subst (λ (cs : List Command). HasSent cs p.sent) same p.whole.asked
+
         number : retrieved_by (turns_of c.taken) ≡ report.retrieved
         number = sym (taken_same c.taken (all_front IsPlain (tasks_of c.taken) c.under p.plain) p.by.took.each)
             ∙ ap (λ (l : List ReportLine). count_by is_text_taken l) (sym p.by.ahead.told) ∙ sym session.reports.retrieved_is
 
-    by : (session_course : SessionCourse) → Spoke settings (AsFiles account) now (keeps_files before) link link' session.result
-        session.notes.lines session_course
+    by : (session_course : SessionCourse) → (session_course ≡ Idle → report.outcome ≢ Ended)
+        → Spoke settings (AsFiles account) now (keeps_files before) link link' session.result session.notes.lines session_course
         → (sent got : List ℕ) × (link'.sent ≡ link.sent ++ sent) × (link'.got ≡ link.got ++ got)
         × (EndsInOpening settings report sent got ⊎ SpeaksByPlan settings account now before report sent got)
-    by Idle it =
+    by Idle cut it =
         let said : Converses (opening_of settings) (tail_behind report.outcome) it.sent it.got = rw session.reports.outcome_is it.said in (
           it.sent,
           it.got,
           it.sent_is,
           it.got_is,
-          inl (record { said = said; follows = follows_none laws settings valid (is_tail_for session.result) it }),
+          inl (record { said = said; cut = cut refl; follows = follows_none laws settings valid (is_tail_for session.result) it }),
         )
-    by (Deals c) p = (p.sent, p.got, p.sent_is, p.got_is, inr (by_plan c p))
+    by (Deals c) _ p = (p.sent, p.got, p.sent_is, p.got_is, inr (by_plan c p))

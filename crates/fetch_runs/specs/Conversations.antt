@@ -1,7 +1,7 @@
 -- The commands of a session's plan, and which of them are sent.
 -- The conversation of one session: the turns that were completed, the one that was begun after them, and the tail.
 use Rattle.std.specs.{
-  Prelude.{◌≡◌, ◌⊎◌, ℕ, Bool, List, [], ◌∷◌, ◌++◌, if◌then◌else◌, true, false, map, None, Some},
+  Prelude.{◌≡◌, ◌≢◌, ◌⊎◌, ℕ, Bool, List, [], ◌∷◌, ◌++◌, if◌then◌else◌, true, false, map, None, Some},
   List.{flat_map, count_by, AllZip},
   String.string_bytes,
 }
@@ -105,10 +105,11 @@ pub record FollowsPlan (settings : Settings) (steps : List Step) (sent : List �
   pub asked : HasSent commands sent
   pub front : IsFrontOfPlan (string_bytes settings.username) (string_bytes settings.password) steps commands
 
--- a session that didn't get past its opening
+-- a session that was cut and didn't get past its opening
 pub record EndsInOpening (settings : Settings) (report : Report) (sent got : List ℕ) : Type 0 where
   pub said : Converses (opening (string_bytes settings.username) (string_bytes settings.password))
       (tail_behind report.outcome) sent got
+  pub cut : report.outcome ≢ Ended
   pub follows : FollowsPlan settings [] sent
 
 -- a session whose listing was joined followed the plan for that listing and for the rows that the record's file stood
@@ -130,6 +131,8 @@ pub record SpeaksByPlan (settings : Settings) (account : List ℕ) (now : ℕ) (
       × (said.replies ≡ hello ∷ user ∷ pass ∷ stat ∷ uidl ∷ list ∷ more) × IsListed stat uidl list items
   pub counts : CountsTexts report.outcome said.done said.begun report.retrieved
   pub ended : report.outcome ≡ Ended → (said.begun ≡ []) × (said.later ≡ [])
+      × HasSent (plan_commands (string_bytes settings.username) (string_bytes settings.password)
+      (planned settings (is_odd account before.maildir) rows items now)) sent
 
 -- a law: what the link gained by a session is one conversation, of the opening alone if it didn't get further
 abbrev pub SessionsAreConversations : Type 0

@@ -33,8 +33,8 @@ use pop3_wire::{
     only_one_list_of_lines, only_one_reading, rows_have_fields,
 };
 
-/// What is taken from the laws of the crates below.
-fn laws_below()
+/// What is taken from the laws of the crates below, here and in the proofs of crates above.
+pub fn laws_below()
     ensures { Below }
 {
     stems_differ();

@@ -236,10 +236,10 @@ good_fetches link disk file drop history leads law now old server report new wir
     let serves = leads (loop_to server) wire led in
     let is = law old.settings (target_in old) now unused before report wire.link (kept_in disk file new) done in
     let ended = is.0 (record {
-      answered = turns_answered drop.sound drop.mail server wire serves good.up fetched.over good.fresh.state drop_sound good.drop_refused
+      answered = turns_answered drop.sound drop.mail server wire serves good.up fetched.over fetched.fresh drop_sound good.drop_refused
           good.messages good.within old.settings fetched.made.0 good.user good.pass (target_in old) now before;
       agree = λ count uids sizes mid on opened.
-          (listings_agree drop.sound drop.mail server wire serves good.up fetched.over good.fresh.state drop_sound good.drop_refused
+          (listings_agree drop.sound drop.mail server wire serves good.up fetched.over fetched.fresh drop_sound good.drop_refused
           good.messages good.within old.settings fetched.made.0 good.user good.pass count uids sizes mid on opened).1;
       usable = good.usable;
       read = good.read;

@@ -1,9 +1,11 @@
+mod DropLemmas
 mod FetchLemmas
 mod FirstFetches
 mod GoodLemmas
 mod LocalLemmas
 mod LoopLemmas
 mod Losses
+mod Marked
 mod MoveLemmas
 mod OneMessage
 mod ReplyLemmas

@@ -45,7 +45,7 @@ with_end : {A : Type 0} (P : A → Type 0) (xs ys zs : List A) → AllByRecursio
 with_end P [] ys zs all end = end
 with_end P (x ∷ xs) ys zs all end = (all.0, with_end P xs ys zs all.1 end)
 
-of_session : (name word : List ℕ) (steps : List Step) (commands : List Command) → IsFrontOfPlan name word steps commands
+pub of_session : (name word : List ℕ) (steps : List Step) (commands : List Command) → IsFrontOfPlan name word steps commands
     → AllByRecursion IsOfSession commands
 of_session name word steps commands front =
     let plan : AllByRecursion IsOfSession (plan_commands name word steps) = (tt, (tt, (tt, (tt, (tt, of_steps steps))))) in
@@ -56,7 +56,7 @@ of_session name word steps commands front =
     of_steps [] = (tt, tt)
     of_steps (s ∷ steps) = grind (arith, of_steps steps)
 
-each_asked : (commands : List Command) → AllByRecursion IsOfSession commands → AllByRecursion HasNumbers commands
+pub each_asked : (commands : List Command) → AllByRecursion IsOfSession commands → AllByRecursion HasNumbers commands
     → AllByRecursion (λ command. can_be_sent command ≡ true) commands → AllByRecursion IsAsked commands
 each_asked [] of_session numbers sendable = tt
 each_asked (c ∷ commands) of_session numbers sendable = (

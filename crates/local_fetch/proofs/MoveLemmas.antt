@@ -14,12 +14,16 @@ use Rattle.mail_store.specs.{
 use Rattle.mail_terms.specs.UniqueId.{has_id}
 use Rattle.fetch_record.specs.Record.{is_delivered}
 use Rattle.pop3_wire.specs.{World.Message, declared.wire.Wire.Ghosts as WireGhosts}
-use Rattle.pop3_server.specs.{declared.maildrop.Maildrop.Ghosts as DropGhosts, LoopLink.Loop}
+use Rattle.pop3_server.specs.{declared.maildrop.Maildrop.Ghosts as DropGhosts, LoopLink.{Loop, Serves}}
 use Rattle.rc_file.specs.declared.settings.Settings.{Settings}
 use Rattle.fetch_rules.specs.Wanted.{fitting}
-use Rattle.fetch_session.specs.{declared.account.Store.TheVariants.Maildir as InMaildir, Account.digits_of}
+use Rattle.fetch_session.specs.{
+  declared.account.Store.TheVariants.Maildir as InMaildir,
+  Account.digits_of,
+  Session.{Session, account_files},
+}
 use Rattle.fetch_runs.{
-  specs.{Accounts.{AccountMail, copies}, Steps.IsIn},
+  specs.{Accounts.{AccountMail, copies}, Steps.IsIn, Below.Below, Conversations.SessionsAreConversations},
   specs.Promises.{Call, ComesFor, Devices, FetchesWanted, Invariant, IsMaildrop, IsOf, IsSafe, Mail, OneComes, State},
   specs.Promises.{is_safe, may_fetch, state_with},
   specs.Calls.{Called, Happening, Left, Lost, Shows, with_left},
@@ -27,9 +31,9 @@ use Rattle.fetch_runs.{
   proofs.Lists.{all_back, all_both, all_front, all_ids_at, all_map, bytes_self},
 }
 use Rattle.local_fetch.{
-  specs.{Local.AreWithout, Fetches.{Fetch, FetchesKeepPromises, as_call, shown_by}},
+  specs.{Local.{AreWithout, loop_to, unused}, Fetches.{Fetch, FetchesKeepPromises, IsFetch, as_call, shown_by}},
   specs.Moves.{EndsWithoutLimits, IsInOneFile, IsSomewhere, MailIsMoved, MoveMail},
-  proofs.FirstFetches.no_copies,
+  proofs.{DropLemmas.none_there, FirstFetches.no_copies},
 }
 
 -- ---- where a message is
@@ -137,10 +141,32 @@ all_fetched call is_odd known Is size count clear both =
 -- ---- any list of calls
 
 pub mail_is_moved : {M D F : Type 0} (link : WireGhosts (Loop M)) (disk : DiskGhosts D) (file : FileGhosts F) (drop : DropGhosts M)
-    → FetchesKeepPromises link disk file drop → MailIsMoved link disk file drop
-mail_is_moved {M} {D} {F} link disk file drop law mail all state devices list are one shows kept =
+    → ((w : Loop M) → link.history w ≡ w.link) → ((u v : Loop M) → link.leads_to u v → Serves drop.sound drop.mail u v)
+    → Below → SessionsAreConversations → FetchesKeepPromises link disk file drop → MailIsMoved link disk file drop
+mail_is_moved {M} {D} {F} link disk file drop history leads laws conversations law mail all state devices list are one shows kept =
     go state devices all list shows kept (all_map all (all_in all) (λ m at. inl at))
   where
+    -- QUIT has removed all
+    all_deleted : (devices : Devices D F) (fetch : Fetch M D F) → IsFetch link disk file drop InMaildir (ComesFor mail) devices fetch
+        → EndsWithoutLimits fetch → (disk.maildir fetch.after.store).odd ≡ [] → fetch.settings.delete ≡ true
+        → shown_by drop fetch.wire.machine ≡ []
+    all_deleted devices fetch is ends clear delete =
+        let (_, _, _, led, (left, taken, (session, _))) = is.fetched.made.2 is.fetched.link_sound is.store_sound is.file_sound in
+        let account = digits_of fetch.settings in
+        let before = account_files left (file.stored devices.file) in
+        let after = account_files (disk.maildir fetch.after.store) (file.stored fetch.after.file) in
+        let done : Session fetch.settings account fetch.now unused before fetch.report fetch.wire.link after =
+        rw (history (loop_to fetch.server), history fetch.wire) at session in
+        let (sent, got, sent_is, got_is, said) = conversations fetch.settings account fetch.now unused before fetch.report
+        fetch.wire.link after is.fetched.made.0 done in
+        let odd = laws.kept fetch.settings account fetch.now unused before fetch.report fetch.wire.link after done in
+        elim said [
+          | inl opens ↦ absurd (opens.cut ends.ended)
+          | inr plan ↦ none_there drop.sound drop.mail laws fetch.server fetch.wire (leads (loop_to fetch.server) fetch.wire led)
+              is.fetched.fresh is.drop_sound is.messages is.maildrop.distinct (rw (← sent_is, ← got_is) at plan) ends.ended delete
+              ends.max_size ends.max_count (sym odd.3 ∙ clear)
+        ]
+
     go : (state : State) (devices : Devices D F) (there : List Message)
         (list : List (Happening (Fetch M D F) (Devices D F) AccountMail)) → Shows disk file devices state.account → Invariant mail state
         → AllByRecursion (IsSomewhere mail state there) all → MoveMail link disk file drop mail all state devices there list
@@ -163,10 +189,12 @@ mail_is_moved {M} {D} {F} link disk file drop law mail all state devices list ar
                   (all_map (shown_by drop fetch.server) (all_fetched (as_call drop fetch vanished)
                   (is_odd mail.account promised.after.maildir)
                   (λ id. is_delivered state.account.rows id || is_held mail.account promised.left id) _ ends.max_size ends.max_count
-                  (λ id. rw clear' refl) (promised.promises.wanted ends.ended).1) (λ m both. both.0)) in
-                  all_both all are.each somewhere (λ m of_it it. in_one_file mail one next kept' m of_it
-                  (⊎_elim (λ (place, at). at_place (λ x. IsSafe mail next x.uid) there m place here at)
-                  (λ (gone, _). (gone_safe mail next m kept' (list_any-append _ vanished state.gone ∙ or_right _ _ gone)).1) it)),
+                  (λ id. rw clear' refl) (promised.promises.wanted ends.ended).1) (λ m both. both.0)) in (
+                    all_both all are.each somewhere (λ m of_it it. in_one_file mail one next kept' m of_it
+                        (⊎_elim (λ (place, at). at_place (λ x. IsSafe mail next x.uid) there m place here at)
+                        (λ (gone, _). (gone_safe mail next m kept' (list_any-append _ vanished state.gone ∙ or_right _ _ gone)).1) it)),
+                    all_deleted devices fetch is ends clear,
+                  ),
               go next fetch.after (shown_by drop fetch.wire.machine) later shows' kept' (all_map all somewhere
                   (somewhere_on mail state next there (shown_by drop fetch.wire.machine) vanished without refl kept')),
             ),

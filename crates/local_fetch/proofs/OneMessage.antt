@@ -68,7 +68,6 @@ one_is_stored link disk file drop mail good first message devices fetch is_messa
     let shown : shown_by drop fetch.server ≡ message ∷ [] = rw (server_is, mail (server_with settings message).drop) refl in
     let (ended, _) = good fetch.now (account_over InMaildir settings devices) fetch.server fetch.report
     (account_over InMaildir settings fetch.after) fetch.wire fetched had.store_sound had.file_sound had.drop_sound (record {
-      fresh = record { state = rw server_is refl; sent = refl; got = refl; answers = refl; left = refl; waiting = refl };
       user = rw server_is refl;
       pass = rw server_is refl;
       messages = rw shown (is_message, tt);

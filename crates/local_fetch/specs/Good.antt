@@ -15,7 +15,6 @@ use Rattle.pop3_wire.specs.{Stuffed.stuffed_lines, World.{Message, IsMessage}, d
 use Rattle.pop3_client.specs.Turns.{text_limit}
 use Rattle.pop3_server.specs.{
   declared.{maildrop.Maildrop.Ghosts as DropGhosts, state.State.TheVariants.Authorization},
-  HonestLoop.IsUnused,
   LoopLink.Loop,
   Maildrop.{DropMail, there},
   ServerMachine.Machine,
@@ -33,7 +32,7 @@ use Rattle.fetch_session.specs.{
   Session.{Keeping, keeping},
   Target.{AfterTakingIn, Target, is_sound, stores_of, target_of},
 }
-use Rattle.local_fetch.specs.{Fetches.Fetch, Local.{WasFetchedLocally, loop_to, unused}}
+use Rattle.local_fetch.specs.{Fetches.Fetch, Local.{WasFetchedLocally, unused}}
 
 -- the message's body, as it is sent, is within the client's limit
 abbrev pub IsWithin : Message → Type 0
@@ -43,11 +42,10 @@ IsWithin message = length (stuffed_lines (lines_of_text message.text)) ≤ text_
 abbrev pub target_in : {D F : Type 0} → Holding D F → Target
 target_in old = target_of old.store (digits_of old.settings)
 
--- a new server has the account's user and password, and messages within the limit; the store can be used, and the
+-- the server has the account's user and password, and messages within the limit; the store can be used, and the
 -- record can be read; no call of the devices, of the maildrop or of the link was refused; and memory didn't run out
 pub record IsUnhindered {M D F : Type 0} (disk : DiskGhosts D) (file : FileGhosts F) (drop : DropGhosts M)
     (old : Holding D F) (server : Machine M) (report : Report) (new : Holding D F) (wire : Loop M) : Type 0 where
-  pub fresh : IsUnused (loop_to server)
   pub user : server.user ≡ string_bytes old.settings.username
   pub pass : server.pass ≡ string_bytes old.settings.password
   pub messages : AllByRecursion IsMessage (there (drop.mail server.drop).slots)

@@ -1,5 +1,5 @@
 -- One session over a server in memory.
-use Rattle.std.specs.{Prelude.{◌≡◌, ◌⊎◌, ℕ, true, false, List, [], ◌∷◌, ◌++◌}, List.AllByRecursion}
+use Rattle.std.specs.{Prelude.{◌≡◌, ◌⊎◌, ℕ, true, false, List, [], ◌∷◌, ◌++◌, None}, List.AllByRecursion}
 use Rattle.pop3_wire.specs.{
   declared.{command.Command.{Command, TheVariants.Quit}, wire.Wire.Ghosts as WireGhosts},
   Link.Link,
@@ -11,7 +11,7 @@ use Rattle.mail_store.specs.declared.{
   file.flat_file.FlatFile.Ghosts as FileGhosts,
 }
 use Rattle.pop3_server.specs.{
-  declared.maildrop.Maildrop.Ghosts as DropGhosts,
+  declared.{maildrop.Maildrop.Ghosts as DropGhosts, state.State.TheVariants.Authorization},
   Maildrop.{DropMail, there},
   ServerMachine.{Machine, greeting_line},
   LoopLink.Loop,
@@ -48,12 +48,13 @@ pub record IsServedByHonest {M : Type 0} (mail : M → DropMail) (old new : Mach
   pub quits : (vanished ≡ []) ⊎ ((front behind : List Command) × (served.honest.commands ≡ front ++ Quit ∷ behind))
   pub left : AreWithout (there (mail old.drop).slots) vanished (there (mail new.drop).slots)
 
--- what the contract of `fetch_local` says of each call: it was a call of `session` over an unused link to this server,
+-- what the contract of `fetch_local` says of each call: it was a call of `session` over an unused link to a new server,
 -- which did what its trait says; and if the devices and the maildrop did so too, an honest server answered
 pub record WasFetchedLocally {M D F : Type 0} (link : WireGhosts (Loop M)) (disk : DiskGhosts D) (file : FileGhosts F)
     (drop : DropGhosts M) (now : ℕ) (old : Holding D F) (server : Machine M) (report : Report) (new : Holding D F)
     (wire : Loop M) : Type 0 where
   pub made : WasMade link disk file now old (loop_to server) report new wire
+  pub fresh : server.state ≡ Authorization None
   pub link_sound : link.sound wire
   -- while it is up none of its calls was refused, and once it has ended nothing is left
   pub up : wire.down ≡ false → wire.link.failures ≡ 0

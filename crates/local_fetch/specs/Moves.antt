@@ -38,7 +38,7 @@ pub record EndsWithoutLimits {M S F : Type 0} (fetch : Fetch M S F) : Type 0 whe
 
 -- each of these messages is somewhere; if the next of these happens, a call to a server with what is left of the
 -- maildrop keeps its promises, and each is somewhere after it, and after others or a loss of power. If the call ended,
--- had no limits and met no odd name, each is in one file, or was taken away
+-- had no limits and met no odd name, each is in one file, or was taken away; and if it deletes, the maildrop is empty
 abbrev pub MoveMail : {M D F : Type 0} → WireGhosts (Loop M) → DiskGhosts D → FileGhosts F → DropGhosts M → Mail
     → List Message → State → Devices D F → List Message → List (Happening (Fetch M D F) (Devices D F) AccountMail)
     → Type 0
@@ -49,7 +49,8 @@ MoveMail link disk file drop mail all state devices there (Called fetch ∷ late
     → (vanished : List (List ℕ)) × ServerRemoves drop fetch vanished
     × (is : IsPromised link disk file mail state devices (as_call drop fetch vanished))
     × let next = state_with mail (with_left mail state is.left) vanished is.after in
-    (EndsWithoutLimits fetch → (disk.maildir fetch.after.store).odd ≡ [] → AllByRecursion (IsInOneFile mail next) all)
+    (EndsWithoutLimits fetch → (disk.maildir fetch.after.store).odd ≡ [] → AllByRecursion (IsInOneFile mail next) all
+    × (fetch.settings.delete ≡ true → shown_by drop fetch.wire.machine ≡ []))
     × MoveMail link disk file drop mail all next fetch.after (shown_by drop fetch.wire.machine) later)
 MoveMail link disk file drop mail all state devices there (Left left account ∷ later) =
     AllByRecursion (IsSomewhere mail state there) all × (Shows disk file left account

@@ -14,8 +14,9 @@ ghost use Rattle.local_fetch.specs.{
 
 use crate::loop_wire::LoopWire;
 use fetch_runs::{
-    calls_get_far, calls_keep_promises, empty_accounts_hold, headline, mbox_calls_get_far,
-    mbox_calls_keep_promises, mbox_headline, mbox_starts,
+    calls_get_far, calls_keep_promises, empty_accounts_hold, headline, laws_below,
+    mbox_calls_get_far, mbox_calls_keep_promises, mbox_headline, mbox_starts,
+    sessions_are_conversations,
 };
 use fetch_session::good_sessions_store_all;
 use folder_store::HostFile;
@@ -86,11 +87,13 @@ pub fn first_fetches_keep_mail<M: Maildrop, D: MaildirDisk, F: FlatFile>()
 /// A law, for mail that is moved from one Maildir into another, or from any maildrop: after any list of calls of
 /// [`fetch_local`](crate::fetch_local), cut or not, which may delete, each message is still in the maildrop, or is gone
 /// from it and held or was taken away. After a call that ended, had no limits and met no name of what can't be opened,
-/// each is in one file, with its text, or was taken away.
+/// each is in one file, with its text, or was taken away; and if it was to delete, the maildrop is empty.
 pub fn mail_is_moved<M: Maildrop, D: MaildirDisk, F: FlatFile>()
     ensures { MailIsMoved ⟦<LoopWire<M> as Wire>⟧ D.MaildirDisk F.FlatFile M.Maildrop }
 {
     fetches_keep_promises::<M, D, F>();
+    laws_below();
+    sessions_are_conversations();
 }
 
 /// A law: all that `mbox_calls_keep_promises` promises holds of any list of calls of

@@ -18,6 +18,7 @@ returns-clause-fetched g c =
     let new = c.session-report.new.account in
     record {
       made = (valid, same, ran);
+      fresh = c.requires.new.state;
       link_sound = small;
       up = c.failures.ensures.up;
       over = c.failures.ensures.over;
