@@ -19,7 +19,7 @@ use Rattle.mail_store.specs.{
 }
 use Rattle.fetch_session.specs.declared.report.Outcome.{Outcome, TheVariants.{Ended, Cut}}
 use Rattle.fetch_runs.{
-  specs.{Accounts.{is_selected}, Below.Below, Losses.{IsFileLeft, KeepsRecorded}},
+  specs.{Accounts.{is_selected}, Below.Below, Losses.{IsFileLeft, KeepsRecorded, ShowsAll}},
   proofs.Calls.entered_more,
   specs.Calls.{Called, CallsKeepPromises, Left, Lost, MboxCallsKeepPromises},
   specs.Promises.{Call, FetchesWanted, may_fetch},
@@ -241,7 +241,7 @@ shown_left laws aim calls kept content left rows shown intent intent' stands sta
 come_after : (aim : Aim) (disk disk' : Disk) (calls kept : ℕ) (outcome : Outcome) (rows rows' : List Row) {trusts : Type 0}
     → HasCome disk aim calls kept rows → (trusts → KeepsRecorded disk disk' rows rows' outcome)
     → IsFar aim (uncut_after calls outcome) (is_delivered rows') → (next : ℕ)
-    → CountsOn trusts calls kept outcome rows rows' next → HasCome disk' aim (uncut_after calls outcome) next rows'
+    → CountsOn trusts disk calls kept outcome rows rows' next → HasCome disk' aim (uncut_after calls outcome) next rows'
 come_after aim disk disk' calls kept outcome rows rows' come keeps far next counts = record {
   far = far;
   fewer = ⊎_elim (λ none. omega (arith, none)) (λ (_, on). ⊎_elim
@@ -251,7 +251,10 @@ come_after aim disk disk' calls kept outcome rows rows' come keeps far next coun
       (λ same. rw same (⊎_elim (λ before. come.left could shown intent before stands)
       (λ shows. stays_far aim kept (far_of_fewer aim kept calls (is_delivered rows) come.fewer come.far) shows)
       ((keeps trust).left could shown intent may stands)))
-      (λ (ended, changed, all). ⊎_elim (λ same. absurd (changed same))
+      (λ (ended, counts, all). ⊎_elim (λ same. ⊎_elim (λ changed. absurd (changed same)) (λ durable.
+      let shows : ShowsAll rows shown = ⊎_elim (λ before. durable could shown intent before stands) (λ shows. shows)
+      ((keeps trust).left could shown intent may stands) in
+      rw all (stays_far aim (calls + 1) (rw ended at far) (rw same shows))) counts)
       (λ shows. rw all (stays_far aim (calls + 1) (rw ended at far) (shows could shown intent may stands)))
       ((keeps trust).uncut ended)) on) counts;
 }

@@ -73,10 +73,10 @@ pub record HasCome (disk : Disk) (aim : Aim) (calls kept : ℕ) (rows : List Row
   pub left : LeavesRows disk (λ rows. IsFar aim kept (is_delivered rows))
 
 -- how many calls count in a loss of power after this one: none; or if no flush was refused as many as before it, or all
--- until now, if it was uncut and changed the record
-abbrev pub CountsOn : (trusts : Type 0) → (calls kept : ℕ) → Outcome → (rows rows' : List Row) → ℕ → Type 0
-CountsOn trusts calls kept outcome rows rows' next = (next ≡ 0)
-    ⊎ (trusts × ((next ≡ kept) ⊎ ((outcome ≡ Ended) × (rows' ≢ rows) × (next ≡ calls + 1))))
+-- until now, if it was uncut and changed the record, or whatever could be left of the record before showed all of it
+abbrev pub CountsOn : (trusts : Type 0) → Disk → (calls kept : ℕ) → Outcome → (rows rows' : List Row) → ℕ → Type 0
+CountsOn trusts disk calls kept outcome rows rows' next = (next ≡ 0) ⊎ (trusts × ((next ≡ kept)
+    ⊎ ((outcome ≡ Ended) × ((rows' ≢ rows) ⊎ LeavesRows disk (ShowsAll rows)) × (next ≡ calls + 1))))
 
 -- ---- with a Maildir
 
@@ -92,8 +92,8 @@ GetFar link disk file mail aim calls kept state devices (Called call ∷ later) 
     → IsCall link disk file InMaildir disk.sound (ComesFor mail) devices call
     → IsTowards aim (is_delivered state.account.rows) call → (disk.maildir call.after.store).odd ≡ []
     → (is : IsPromised link disk file mail state devices call) × ((next : ℕ)
-    → CountsOn (TrustsRecord file devices.file call.after.file) calls kept call.report.outcome state.account.rows
-    is.after.rows next → GetFar link disk file mail aim (uncut_after calls call.report.outcome) next
+    → CountsOn (TrustsRecord file devices.file call.after.file) (file.disk devices.file) calls kept call.report.outcome
+    state.account.rows is.after.rows next → GetFar link disk file mail aim (uncut_after calls call.report.outcome) next
     (state_with mail (with_left mail state is.left) call.vanished is.after) call.after later))
 GetFar link disk file mail aim calls kept state devices (Left left account ∷ later) = Invariant mail state
     × HasCome (file.disk devices.file) aim calls kept state.account.rows × (Shows disk file left account
@@ -128,7 +128,8 @@ GetMboxFar link disk file aim calls kept base done account devices (Called call 
     × (IsCall link disk file InMbox file.sound (IsTextOf base) devices call
     → IsTowards aim (is_delivered account.rows) call
     → (sent : List ℕ) × (after : MboxMail) × (appends : AppendsMail base holds call sent after) × ((next : ℕ)
-    → CountsOn (TrustsMbox file devices call.after) calls kept call.report.outcome account.rows after.rows next
+    → CountsOn (TrustsMbox file devices call.after) (file.disk devices.file) calls kept call.report.outcome account.rows
+    after.rows next
     → GetMboxFar link disk file aim (uncut_after calls call.report.outcome) next base (done ++ appends.more) after
     call.after later))
 GetMboxFar link disk file aim calls kept base done account devices (Left left now ∷ later) =

@@ -184,7 +184,8 @@ pub fn headline<W: Wire, D: MaildirDisk, F: FlatFile>()
 /// fetch. Each of these is held or was taken away.
 ///
 /// It is so whatever readers do, and if others keep the record. If no flush of the record's file was refused, calls
-/// count in a loss of power too: all until the last uncut one that changed the record.
+/// count in a loss of power too: all until the last uncut one that changed the record, or before which whatever could
+/// be left of it showed all of it.
 pub fn calls_get_far<W: Wire, D: MaildirDisk, F: FlatFile>()
     ensures { CallsGetFar W.Wire D.MaildirDisk F.FlatFile }
 {
