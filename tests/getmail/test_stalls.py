@@ -75,7 +75,7 @@ class Stalls(unittest.TestCase):
 
     def test_no_greeting(self):
         asked = self.check_stall(b"", [])
-        self.assertEqual([row for row in asked if row[0] != "poll"], [("read", WAIT), ("write", WAIT), ("nodelay", 1)])
+        self.assertEqual([row for row in asked if row[0] != "poll"], [("nodelay", 1), ("read", WAIT), ("write", WAIT)])
 
     def test_the_reason_is_the_silence(self):
         with SilentServer(b"+OK\r\n") as server, Account(server.port) as account:

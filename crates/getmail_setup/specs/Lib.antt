@@ -1,4 +1,5 @@
 pub mod CommandLine
+pub mod Connecting
 pub mod Failures
 pub mod InPlace
 pub mod Lock

@@ -1,7 +1,17 @@
 //! The connection to the server: over TCP, or to a Unix socket on which a tunnel listens.
-ghost use Rattle.std.specs.{Prelude.{◌≡◌, IfOk, false, true}, String.string_bytes};
+ghost use Rattle.std.specs.{
+  Prelude.{◌≡◌, ◌↔◌, ℕ, IfErr, IfNone, IfOk, IfSome, IsFalse, OnErr, OnOk, false, true, length},
+  Duration.as_nanos,
+  List.AllWithin,
+  Net.Socket.socket_ip,
+  String.string_bytes,
+  declared.net.{ip_addr.IpAddr.IpAddr, socket_addr.SocketAddr.SocketAddr},
+};
 ghost use Rattle.trace.specs.Wire.{Hides};
-ghost use Rattle.getmail_setup.specs.Places.{account_name, is_local, is_socket, peer_name};
+ghost use Rattle.getmail_setup.specs.{
+  Connecting.{HasLimits, IsCanonical, IsLoopback, Refuses, TakesFirst, connect_limit},
+  Places.{account_name, is_local, is_socket, peer_name},
+};
 
 use crate::errors::Errors;
 use crate::failure::{Failure, failure_of};
@@ -32,31 +42,133 @@ type End<'a> = Noted<'a, &'a TcpStream>;
 /// The link over a connection.
 pub type Link<'a> = TracedWire<'a, StreamWire<End<'a>, End<'a>>, Stderr>;
 
-/// Connects to one address, and limits how long reads and writes wait. Each command goes out at once.
-fn connect_to<R: Net<Stream = TcpStream>>(net: &R, address: SocketAddr) -> io::Result<TcpStream> {
-    let stream = TcpStream::connect_timeout(net, &address, Duration::from_secs(CONNECT_SECONDS))?;
-    let wait = Some(Duration::from_secs(WAIT_SECONDS));
-    stream.set_read_timeout(wait)?;
-    stream.set_write_timeout(wait)?;
-    stream.set_nodelay(true)?;
-    Ok(stream)
+/// A stream whose waits can be limited.
+trait LimitWaits {
+    // Each of its reads waits for so many nanoseconds at most.
+    ghost limits_reads: { Self → ℕ → Type 0 };
+
+    // Each of its writes does.
+    ghost limits_writes: { Self → ℕ → Type 0 };
+
+    // A limit was refused.
+    ghost is_refused: { Self → Type 0 };
+
+    fn limit_reads(&self, wait: Duration) -> io::Result<()>
+        ensures ok { OnOk result (limits_reads self.now (as_nanos wait)) }
+        ensures err { OnErr result (is_refused self.now) };
+
+    fn limit_writes(&self, wait: Duration) -> io::Result<()>
+        ensures ok { OnOk result (limits_writes self.now (as_nanos wait)) }
+        ensures err { OnErr result (is_refused self.now) };
 }
 
-/// Notes that an address took no connection. Without memory it isn't noted.
-fn note_refused(alloc: Global, refusals: &Refusals, address: SocketAddr, error: io::Error) {
-    if let Ok(address) = format!(in alloc; "{address}") {
-        let _ = refusals.noted("connect", address.as_str(), Err::<(), io::Error>(error));
+impl LimitWaits for TcpStream {
+    ghost limits_reads = { λ _ _. Unit {0} };
+
+    ghost limits_writes = { λ _ _. Unit {0} };
+
+    ghost is_refused = { λ _. Unit {0} };
+
+    fn limit_reads(&self, wait: Duration) -> io::Result<()> {
+        self.set_read_timeout(Some(wait))
+    }
+
+    fn limit_writes(&self, wait: Duration) -> io::Result<()> {
+        self.set_write_timeout(Some(wait))
     }
 }
 
-/// Connects to a socket, and limits how long reads and writes wait. What reads and writes a stream is the same for
-/// either kind.
+/// One that connects to addresses.
+trait Dial {
+    type Stream: LimitWaits + Drop;
+
+    // An address took this connection, which had so many nanoseconds for it.
+    ghost took: { Self → SocketAddr → ℕ → Self.Stream → Type 0 };
+
+    // It took none.
+    ghost refused: { Self → SocketAddr → ℕ → Type 0 };
+
+    fn dial(&self, address: SocketAddr, limit: Duration) -> io::Result<Self::Stream>
+        ensures ok { IfOk result (took self.now address (as_nanos limit)) }
+        ensures err { IfErr result (λ _. refused self.now address (as_nanos limit)) };
+
+    /// Notes why an address isn't taken.
+    fn note(&self, address: SocketAddr, error: io::Error);
+}
+
+/// TCP, and where it is noted why an address isn't taken.
+#[derive(Drop)]
+struct Tcp<'a, R> {
+    rt: &'a R,
+    refusals: &'a Refusals,
+}
+
+impl<'a, R: Net<Stream = TcpStream> + AllocGlobal> Dial for Tcp<'a, R> {
+    type Stream = TcpStream;
+
+    ghost took = { λ _ _ _ _. Unit {0} };
+
+    ghost refused = { λ _ _ _. Unit {0} };
+
+    /// Each command goes out at once.
+    fn dial(&self, address: SocketAddr, limit: Duration) -> io::Result<TcpStream> {
+        let stream = TcpStream::connect_timeout(self.rt, &address, limit)?;
+        stream.set_nodelay(true)?;
+        Ok(stream)
+    }
+
+    /// Without memory it isn't noted.
+    fn note(&self, address: SocketAddr, error: io::Error) {
+        if let Ok(address) = format!(in self.rt.alloc(); "{address}") {
+            let _ = self
+                .refusals
+                .noted("connect", address.as_str(), Err::<(), io::Error>(error));
+        }
+    }
+}
+
+/// Limits how long reads and writes of a stream wait.
+fn with_limits<S: LimitWaits + Drop>(stream: S) -> io::Result<S>
+    ensures ok { IfOk result (λ ready. (ready ≡ stream) × HasLimits S.limits_reads S.limits_writes stream) }
+    ensures err { IfErr result (λ _. S.is_refused stream) }
+{
+    let wait = Duration::from_secs(WAIT_SECONDS);
+    stream.limit_reads(wait)?;
+    stream.limit_writes(wait)?;
+    Ok(stream)
+}
+
+/// Connects to one address.
+fn connect_to<D: Dial>(net: &D, address: SocketAddr) -> io::Result<D::Stream>
+    ensures ok { IfOk result (λ stream. D.took net.now address connect_limit stream
+        × HasLimits D.Stream.limits_reads D.Stream.limits_writes stream) }
+    ensures err { IfErr result (λ _. Refuses (D.refused net.now) (D.took net.now) D.Stream.is_refused address) }
+{
+    with_limits(net.dial(address, Duration::from_secs(CONNECT_SECONDS))?)
+}
+
+/// Connects to the first of some addresses that takes the connection, and says which it is.
+fn connect_to_first<D: Dial>(net: &D, addresses: &[SocketAddr]) -> Option<(D::Stream, SocketAddr)>
+    ensures some { IfSome result (λ taken. TakesFirst
+        (λ address stream. D.took net.now address connect_limit stream
+        × HasLimits D.Stream.limits_reads D.Stream.limits_writes stream)
+        (Refuses (D.refused net.now) (D.took net.now) D.Stream.is_refused) addresses.now taken.0 taken.1) }
+    ensures none { IfNone result (AllWithin (Refuses (D.refused net.now) (D.took net.now) D.Stream.is_refused)
+        addresses.now 0 (length addresses.now)) }
+{
+    for address in addresses {
+        match connect_to(net, *address) {
+            Ok(stream) => return Some((stream, *address)),
+            Err(error) => net.note(*address, error),
+        }
+    }
+    None
+}
+
+/// Connects to a socket. What reads and writes a stream is the same for either kind.
 fn connect_to_socket<R: Net<Stream = TcpStream>>(net: &R, path: &str) -> io::Result<TcpStream> {
     let stream = UnixStream::connect(net, path)?;
-    let wait = Some(Duration::from_secs(WAIT_SECONDS));
-    stream.set_read_timeout(wait)?;
-    stream.set_write_timeout(wait)?;
-    Ok(TcpStream::from(OwnedFd::from(stream)))
+    with_limits(TcpStream::from(OwnedFd::from(stream)))
 }
 
 /// Whether a server is the absolute path of a socket.
@@ -106,7 +218,9 @@ pub fn connect<'a, R: Net<Stream = TcpStream> + AllocGlobal>(
 }
 
 /// Whether what is sent to an address leaves this machine.
-fn leaves(address: &SocketAddr) -> bool {
+fn leaves(address: &SocketAddr) -> bool
+    ensures { (ip : IpAddr) × IsCanonical (socket_ip address.now) ip × (IsFalse result ↔ IsLoopback ip) }
+{
     !address.ip().to_canonical().is_loopback()
 }
 
@@ -118,20 +232,17 @@ fn connect_over_tcp<'a, R: Net<Stream = TcpStream> + AllocGlobal>(
     port: u16,
 ) -> Result<Connection, Failure<'a>> {
     let addresses = (server, port).to_socket_addrs(rt);
-    let addresses = match refusals.noted("getaddrinfo", server, addresses) {
-        Ok(addresses) => addresses,
+    let addresses: Vec<SocketAddr> = match refusals.noted("getaddrinfo", server, addresses) {
+        Ok(addresses) => addresses.collect(rt.alloc())?,
         Err(error) => return Err(failure_of(error, Failure::CannotConnect(server, port))),
     };
-    for address in addresses {
-        match connect_to(rt, address) {
-            Ok(stream) => return Ok(Connection {
-                stream,
-                leaves: leaves(&address),
-            }),
-            Err(error) => note_refused(rt.alloc(), refusals, address, error),
-        }
+    match connect_to_first(&Tcp { rt, refusals }, addresses.as_slice()) {
+        Some((stream, address)) => Ok(Connection {
+            stream,
+            leaves: leaves(&address),
+        }),
+        None => Err(Failure::CannotConnect(server, port)),
     }
-    Err(Failure::CannotConnect(server, port))
 }
 
 /// What the link needs besides the connection: the peer's name in a trace, and the password that it hides.
