@@ -1,5 +1,9 @@
 -- A run over devices that are made for it.
-use Rattle.std.specs.{Prelude.{◌≡◌, ◌⊎◌, ℕ, Bool, true, List, Option}, String.string_bytes}
+use Rattle.std.specs.{
+  Prelude.{◌≡◌, ◌⊎◌, ℕ, Bool, true, List, Option},
+  String.string_bytes,
+  declared.time.SystemTime.SystemTime,
+}
 use Rattle.pop3_wire.specs.declared.wire.Wire.{Ghosts as WireGhosts}
 use Rattle.mail_store.specs.declared.{
   maildir.disk.MaildirDisk.Ghosts as DiskGhosts,
@@ -9,6 +13,7 @@ use Rattle.rc_file.specs.declared.settings.{Dest.Dest, Settings.Settings}
 use Rattle.fetch_session.specs.{Account.{Holding, IsSameAccount}, declared.{account.Store.Store, report.Report.Report}}
 use Rattle.fetch_rules.specs.declared.plans.Step.{Step}
 use Rattle.getmail_setup.specs.{
+  Clock.second_of,
   Failures.status_of,
   declared.{errors.Errors.Errors, failure.Failure.Failure, output.{Output.Output, OutputRefusal.OutputRefusal}},
   declared.setup.{Paths.Paths, Setup.Setup},
@@ -19,18 +24,21 @@ use Rattle.getmail_program.specs.{
   declared.{ending.Fetched.Fetched, told.Told.Told},
 }
 
--- with a store and a file of the record that were made at these paths, a session of the settings was held, or it was
--- only previewed
+-- with a store and a file of the record that were made at these paths, a session of the settings was held at the second
+-- that the clock showed, or it was only previewed
 pub record FetchesAt {W D F : Type 0} (link : WireGhosts W) (disk : DiskGhosts D) (file : FileGhosts F)
     (made_store : Dest → List ℕ → List ℕ → Store D F → Type 0) (made_record : List ℕ → F → Type 0)
-    (settings : Settings) (paths : Paths) (pretends : Bool) (now : ℕ) (wire : W) (told : Told) : Type 0 where
+    (showed : Option SystemTime → Type 0) (settings : Settings) (paths : Paths) (pretends : Bool)
+    (time : Option SystemTime) (wire : W) (told : Told) : Type 0 where
   pub store : Store D F
   pub store_made : made_store settings.dest (string_bytes paths.destination) (string_bytes paths.rests) store
   pub seen_file : F
   pub record_made : made_record (string_bytes paths.record) seen_file
+  pub is_time : showed time
   pub left : Holding D F
   pub wire' : W
-  pub holds : HoldsSession link disk file pretends now (holding_of settings store seen_file) wire told left wire'
+  pub holds : HoldsSession link disk file pretends (second_of time) (holding_of settings store seen_file) wire told left
+      wire'
   pub same : IsSameAccount (holding_of settings store seen_file) left
 
 -- what a session said was written, and this is its exit status
@@ -45,11 +53,11 @@ pub record TellsOf {O E : Type 0} (out_contents : O → Option (List ℕ)) (err_
 -- a session of a setup was held over some link, or only previewed; the status is 0 if it ended and all was written
 pub record HoldsSetup {W D F : Type 0} (link : WireGhosts W) (disk : DiskGhosts D) (file : FileGhosts F)
     (setup : Setup) (status : ℕ) : Type 0 where
-  pub now : ℕ
+  pub time : Option SystemTime
   pub wire : W
   pub told : Told
-  pub fetches : FetchesAt link disk file (λ _ _ _ _. Unit {0}) (λ _ _. Unit {0}) setup.settings setup.paths
-      setup.pretends now wire told
+  pub fetches : FetchesAt link disk file (λ _ _ _ _. Unit {0}) (λ _ _. Unit {0}) (λ _. Unit {0}) setup.settings
+      setup.paths setup.pretends time wire told
   pub refusal : Option OutputRefusal
   pub status_is : status ≡ status_when (told_outcome told) refusal
 

@@ -1,5 +1,5 @@
 //! The devices of a run, those on a machine's files, and the time there.
-ghost use Rattle.std.specs.Prelude.{◌≡◌, ℕ, List};
+ghost use Rattle.std.specs.{Prelude.{◌≡◌, ℕ, List, Option}, declared.time.SystemTime.SystemTime};
 ghost use Rattle.rc_file.specs.declared.settings.Dest.{Dest};
 ghost use Rattle.fetch_session.specs.{Target.{NoneBegun, kind_of}, declared.account.Store.Store};
 ghost use Rattle.getmail_program.specs.Holding.{kind_in};
@@ -7,21 +7,15 @@ ghost use Rattle.getmail_program.specs.Holding.{kind_in};
 use fetch_rules::{Dest, Settings};
 use fetch_session::Store;
 use folder_store::{HostFile, HostFolder, HostMaildir, ProcessMark};
-use getmail_setup::account_of;
+use getmail_setup::{account_of, second_of};
 use mail_store::{FlatFile, MaildirDisk};
 use std::rt::{Clock, Files};
-use std::time::{SystemTime, UNIX_EPOCH};
+use std::time::SystemTime;
 use system_calls::System;
 
-/// Now, in seconds since 1970; 0 before that.
+/// The second since 1970 that it is now.
 pub fn seconds_now(rt: &impl Clock) -> u64 {
-    match SystemTime::now(rt) {
-        Ok(now) => match now.duration_since(UNIX_EPOCH) {
-            Ok(passed) => passed.as_secs(),
-            Err(_) => 0,
-        },
-        Err(_) => 0,
-    }
+    second_of(SystemTime::now(rt).ok())
 }
 
 /// What makes the devices of a run.
@@ -36,6 +30,9 @@ pub trait Devices<'a> {
     // It made this file of a record at a path.
     ghost made_record: { Self → List ℕ → Self.File → Type 0 };
 
+    // Its clock showed this time, or couldn't be read.
+    ghost showed: { Self → Option SystemTime → Type 0 };
+
     /// The store of a run.
     fn store(&self, dest: &Dest, path: &'a str, rests: &'a str) -> Store<Self::Maildir, Self::File>
         ensures made { made_store self.now dest.now path.now rests.now result }
@@ -45,6 +42,10 @@ pub trait Devices<'a> {
     /// The file of its record.
     fn record_file(&self, path: &'a str) -> Self::File
         ensures { made_record self.now path.now result };
+
+    /// What its clock shows, if it can be read.
+    fn time(&self) -> Option<SystemTime>
+        ensures { showed self.now result };
 
     /// Whether something is kept of what was cut off from an mboxrd file and isn't known to have been a part of an
     /// entry that was appended since. If it is known, it is removed. Of what an earlier run cut off, a run that had
@@ -90,6 +91,8 @@ impl<'a, R: Files + Clock + AllocGlobal + Clone + Drop> Devices<'a> for HostDevi
 
     ghost made_record = { λ _ _ _. Unit {0} };
 
+    ghost showed = { λ _ _. Unit {0} };
+
     /// An entry of an mboxrd file is flushed once: what a loss of power left of one is found and cut off by the next
     /// run, and is kept beside the record.
     fn store(
@@ -107,6 +110,10 @@ impl<'a, R: Files + Clock + AllocGlobal + Clone + Drop> Devices<'a> for HostDevi
 
     fn record_file(&self, path: &'a str) -> Self::File {
         HostFile::by_blocks(self.for_record, path, self.mark)
+    }
+
+    fn time(&self) -> Option<SystemTime> {
+        SystemTime::now(self.for_store.rt).ok()
     }
 
     fn keeps_rests(&self, store: &Store<Self::Maildir, Self::File>, is_idle: bool) -> bool {

@@ -1,7 +1,8 @@
 //! A run over devices that are made for it.
-ghost use Rattle.std.specs.Prelude.{◌≡◌, ◌≤◌, ℕ};
+ghost use Rattle.std.specs.{Prelude.{◌≡◌, ◌≤◌, Option}, declared.time.SystemTime.SystemTime};
 ghost use Rattle.rc_file.specs.Settings.{IsValid};
 ghost use Rattle.fetch_session.specs.{Account.IsSameAccount, Hearing.IsPlanOf};
+ghost use Rattle.getmail_setup.specs.Clock.{second_of};
 ghost use Rattle.getmail_program.specs.{
   Fetching.{FetchesAt, TellsOf},
   Holding.{HoldsSession, holding_of},
@@ -9,20 +10,20 @@ ghost use Rattle.getmail_program.specs.{
   declared.told.Told.Told,
 };
 
-use crate::devices::{Devices, seconds_now};
+use crate::devices::Devices;
 use crate::ending::{Fetched, tell_all};
 use crate::reason::line_of;
 use crate::told::{RunTerms, Told, hold};
 use fetch_rules::Settings;
 use fetch_session::{Account, LeftOut, Store};
-use getmail_setup::{Errors, Output, Paths, ShownWire, Subject, tell_reason};
+use getmail_setup::{Errors, Output, Paths, ShownWire, Subject, second_of, tell_reason};
 use mail_store::{FlatFile, MaildirDisk};
 use pop3_wire::Wire;
 use run_memory::Counts;
 use std::alloc::Global;
 use std::hash::BuildHasher;
 use std::io::Write;
-use std::rt::{Clock, Files};
+use std::rt::Files;
 use system_calls::System;
 
 /// What a run is to do: with these settings, at these paths.
@@ -234,7 +235,7 @@ pub fn fetch_at<'a, R, M, E, W, H, O>(
     mut errors: Errors<'_, E>,
 ) -> u8
 where
-    R: Files + Clock + AllocGlobal,
+    R: Files + AllocGlobal,
     M: Devices<'a>,
     E: Write + Copy + Drop,
     W: Wire + Drop,
@@ -242,11 +243,12 @@ where
     O: Write,
     requires { IsValid errand.settings }
     ensures within { result ≤ 1 }
-    ensures fetches { (now : ℕ) × (told : Told) × (fetched : FetchesAt W.Wire M.Maildir.MaildirDisk M.File.FlatFile
-        (M.made_store devices.now) (M.made_record devices.now)
-        errand.entry.settings errand.entry.paths.now errand.entry.pretends now link.0 told)
+    ensures fetches { (time : Option SystemTime) × (told : Told)
+        × (fetched : FetchesAt W.Wire M.Maildir.MaildirDisk M.File.FlatFile
+        (M.made_store devices.now) (M.made_record devices.now) (M.showed devices.now)
+        errand.entry.settings errand.entry.paths.now errand.entry.pretends time link.0 told)
         × TellsOf O.contents E.contents errand.entry.settings
-        (IsPlanOf W.Wire M.Maildir.MaildirDisk M.File.FlatFile now
+        (IsPlanOf W.Wire M.Maildir.MaildirDisk M.File.FlatFile (second_of time)
         (holding_of errand.entry.settings fetched.store fetched.seen_file) link.0 fetched.left fetched.wire')
         told out.old errors.entry result out.new }
 {
@@ -265,7 +267,7 @@ where
     let seen_file = devices.record_file(record);
     let mut account = Account::new(alloc, settings, store, seen_file, hasher);
     let terms = RunTerms {
-        now: seconds_now(rt),
+        now: second_of(devices.time()),
         destination,
         record,
         pretends,

@@ -1,3 +1,4 @@
+pub mod Clock
 pub mod CommandLine
 pub mod Connecting
 pub mod Failures

@@ -1,6 +1,7 @@
 //! What `getmail` does before its session: its words, its settings and paths, its output and the link.
 #![tactic(auto)]
 
+mod clock;
 mod connection;
 mod errors;
 mod failure;
@@ -16,6 +17,7 @@ mod setup;
 mod shown_wire;
 mod words;
 
+pub use clock::second_of;
 pub use connection::{
     Connection, Link, Peer, SILENT, account_name, connect, is_near, link_over, peer_of,
 };

@@ -5,22 +5,23 @@ returns-clause-fetches g c =
     let made = c.new-account.ensures in
     let did = c.fetch_into-fetched.ensures in
     let (told, holds, tells) = did.fetched in (
-      c.seconds_now.result,
+      c.time.result,
       told,
       record {
         store = c.store-store.result;
         store_made = rw (c.as_str-destination.ensures.value, c.as_str-rests.ensures.value) at c.store-store.ensures.made;
         seen_file = c.record_file-seen_file.result;
         record_made = rw c.as_str-record.ensures.value at c.record_file-seen_file.ensures;
+        is_time = c.time.ensures;
         left = c.fetch_into-fetched.new.account;
         wire' = c.fetch_into-fetched.new.wire.wire;
-        holds = rw (made, c.shown-wire.ensures) at holds;
+        holds = rw (made, c.shown-wire.ensures, c.second_of.ensures) at holds;
         same = rw made at did.same;
       },
       record {
         fetched = c.fetch_into-fetched.result;
         errors' = c.fetch_into-fetched.new.errors;
-        tells = rw (made, c.shown-wire.ensures) at tells;
+        tells = rw (made, c.shown-wire.ensures, c.second_of.ensures) at tells;
         status_is = c.into_status.ensures;
       },
     )

@@ -3,9 +3,9 @@ use Rattle.getmail_program.proofs.fetch.fetch_setup.Goals as goal
 
 pub returns-clause-holds : goal.returns-clause-holds
 returns-clause-holds g c =
-    let (now, told, fetches, tells) = c.fetch_at.ensures.fetches in
+    let (time, told, fetches, tells) = c.fetch_at.ensures.fetches in
     record {
-      now = now;
+      time = time;
       wire = _;
       told = told;
       fetches = record {
@@ -13,6 +13,7 @@ returns-clause-holds g c =
         store_made = tt;
         seen_file = fetches.seen_file;
         record_made = tt;
+        is_time = tt;
         left = fetches.left;
         wire' = fetches.wire';
         holds = fetches.holds;
