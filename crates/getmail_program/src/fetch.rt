@@ -13,9 +13,9 @@ use fetch_rules::Settings;
 use file_reading::ReadFile;
 use folder_store::{HostFile, HostFolder, HostMaildir, ProcessMark};
 use getmail_setup::{
-    Connection, Errors, Failure, Journal, Link, Lock, Output, Peer, Reasons, Setup, Words, connect,
-    fail, failure_of, home, is_long_held, link_over, other_list, peer_of, set_up, take_lock,
-    warn_of_network,
+    Connection, Errors, Failure, Journal, Link, Lock, Output, Peer, Reasons, Setup, SystemLocks,
+    Words, connect, fail, failure_of, home, is_long_held, link_over, other_list, peer_of, set_up,
+    take_lock, warn_of_network,
 };
 use mail_store::{FlatFile, MaildirDisk};
 use pop3_wire::Wire;
@@ -193,7 +193,7 @@ where
         Err(failure) => return Err(fail(alloc, failure, None, errors)),
     };
     note_names(alloc, &setup, &prepared, errors);
-    let lock = take_lock(rt, &setup, errors);
+    let lock = take_lock(alloc, &SystemLocks { rt, reasons }, &setup, errors);
     if let Lock::Elsewhere = &lock {
         if is_patient(rt, words, reasons, errors.journal) {
             return Err(0);

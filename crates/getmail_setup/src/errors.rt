@@ -1,7 +1,8 @@
 //! What a run writes to standard error before its session, and what it keeps of refused calls.
-ghost use Rattle.std.specs.Prelude.{◌≡◌, ◌≤◌, ℕ, List, option_map};
+ghost use Rattle.std.specs.Prelude.{◌≡◌, ◌≤◌, ◌&&◌, ℕ, List, None, Some, if◌then◌else◌, nat_lt, option_map};
 ghost use Rattle.getmail_setup.specs.{
-  Failures.{IsToldCause, TellsFailure, account_front, cause_line, network_warning, start_hint, status_of},
+  Failures.{IsToldCause, IsToldUnlocked, TellsFailure, account_front, cause_line, network_warning, start_hint},
+  Failures.status_of,
   Output.Puts,
 };
 
@@ -73,8 +74,11 @@ impl<'a, E> Errors<'a, E> {
 
 impl<'a, E: Write + Copy> Errors<'a, E> {
     /// Where the line of progress is shown, if it is and a report is wanted.
-    pub fn screen(&self, settings: &Settings) -> Option<E> {
-        if settings.verbose > 0 && self.shows_progress {
+    pub fn screen(&self, settings: &Settings) -> Option<E>
+        ensures { result ≡ (if self.now.shows_progress && nat_lt 0 settings.now.verbose
+            then Some self.now.err.writer else None) }
+    {
+        if self.shows_progress && settings.verbose > 0 {
             Some(self.err.writer())
         } else {
             None
@@ -181,10 +185,16 @@ pub(crate) fn tell_unlocked<E: Write>(
     alloc: Global,
     settings: &Settings,
     errors: &mut Errors<'_, E>,
-) {
-    if let (Some(reason), true) = (refused_before(alloc, errors.reasons), errors.says_why) {
-        tell_reason(Some(settings), "no lock: ", &reason, &mut errors.err);
-        errors.close(Subject::Notice);
+)
+    ensures { (text : List ℕ) × IsToldUnlocked errors.old.says_why settings.now text
+        × Puts E.contents errors.old.err text errors.new.err }
+{
+    match (refused_before(alloc, errors.reasons), errors.says_why) {
+        (Some(reason), true) => {
+            tell_reason(Some(settings), "no lock: ", &reason, &mut errors.err);
+            errors.close(Subject::Notice);
+        }
+        _ => errors.err.put(b""),
     }
 }
 

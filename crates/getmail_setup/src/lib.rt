@@ -26,7 +26,7 @@ pub use failure::{Failure, OUT_OF_MEMORY, explain, failure_of, tell};
 pub use in_place::other_list;
 pub use journal::{Journal, Kept, LeftOut, Part, Subject};
 pub use listed::Large;
-pub use lock::{Lock, take_lock};
+pub use lock::{Lock, LockFiles, SystemLocks, take_lock};
 pub use output::{Output, OutputRefusal, refusal_of};
 pub use place::{folder, home, joined, rc_file};
 pub use run_memory::is_long_held;

@@ -1,14 +1,20 @@
 //! The lock that keeps two runs of an account apart.
-ghost use Rattle.std.specs.Prelude.{◌≡◌, true};
-ghost use Rattle.getmail_setup.specs.Lock.{lock_of};
+ghost use Rattle.std.specs.{
+  Prelude.{◌≡◌, ℕ, false, true, List, Option, Result},
+  String.string_bytes,
+  declared.fs.{File.File, locks.TryLockError.TryLockError},
+};
+ghost use Rattle.getmail_setup.specs.Lock.{LocksAt, lock_of};
 
+use crate::clock::second_of;
 use crate::errors::{Errors, Reasons, tell_unlocked};
 use crate::setup::Setup;
+use std::alloc::Global;
 use std::fs::{File, OpenOptions, TryLockError};
 use std::io::{self, ErrorKind, Write};
 use std::os::unix::fs::OpenOptionsExt;
 use std::rt::{Clock, Files};
-use std::time::{SystemTime, UNIX_EPOCH};
+use std::time::SystemTime;
 use system_calls::System;
 
 /// What became of a run's lock.
@@ -65,53 +71,90 @@ fn mark_time<R: Files<File = File> + Clock>(rt: &R, file: &File) {
 /// The second since 1970 at which a file was marked.
 fn time_of(file: &File) -> Option<u64> {
     let marked = file.metadata().ok()?.modified().ok()?;
-    Some(marked.duration_since(UNIX_EPOCH).ok()?.as_secs())
+    Some(second_of(Some(marked)))
 }
 
-/// Tries to lock a file, without waiting. Why it isn't locked is noted.
-fn try_lock<R: Files<File = File> + Clock + AllocGlobal>(
-    system: &System<'_, R>,
-    path: &str,
-    reasons: &Reasons,
-) -> Lock {
-    let Ok(file) = open_lock(system, path) else {
-        return Lock::Without;
-    };
-    let answer = file.try_lock();
-    match &answer {
-        Ok(()) => mark_time(system.rt, &file),
-        Err(TryLockError::WouldBlock) => {
-            reasons.held_since.set(time_of(&file));
-            let _ = system
-                .refusals
-                .refuse(path, "another process has locked it");
-        }
-        Err(TryLockError::Error(error)) => {
-            let _ = system
-                .refusals
-                .noted("flock", path, Err::<(), io::Error>(*error));
-        }
+/// One that opens files and asks for their locks.
+pub trait LockFiles {
+    // It opened this file at a path, or could open none.
+    ghost opened: { Self → List ℕ → Option File → Type 0 };
+
+    // It asked for the lock of a file, with this answer.
+    ghost asked: { Self → File → Result (Unit {0}) TryLockError → Type 0 };
+
+    /// The file at a path, opened; it is made if there is none.
+    fn open(&self, path: &str) -> Option<File>
+        ensures { opened self.now path.now result };
+
+    /// Asks for the lock of the file at a path, without waiting.
+    fn ask(&self, path: &str, file: &File) -> Result<(), TryLockError>
+        ensures { asked self.now file.now result };
+}
+
+/// A machine's files, and where it is noted why one isn't locked.
+#[derive(Drop)]
+pub struct SystemLocks<'a, R> {
+    pub rt: &'a R,
+    pub reasons: &'a Reasons,
+}
+
+impl<'a, R: Files<File = File> + Clock + AllocGlobal> LockFiles for SystemLocks<'a, R> {
+    ghost opened = { λ _ _ _. Unit {0} };
+
+    ghost asked = { λ _ _ _. Unit {0} };
+
+    fn open(&self, path: &str) -> Option<File> {
+        open_lock(&System::new(self.rt, &self.reasons.before), path).ok()
     }
-    lock_of(file, &answer)
+
+    fn ask(&self, path: &str, file: &File) -> Result<(), TryLockError> {
+        let refusals = &self.reasons.before;
+        let answer = file.try_lock();
+        match &answer {
+            Ok(()) => mark_time(self.rt, file),
+            Err(TryLockError::WouldBlock) => {
+                self.reasons.held_since.set(time_of(file));
+                let _ = refusals.refuse(path, "another process has locked it");
+            }
+            Err(TryLockError::Error(error)) => {
+                let _ = refusals.noted("flock", path, Err::<(), io::Error>(*error));
+            }
+        }
+        answer
+    }
+}
+
+/// Tries to lock the file at a path, without waiting.
+fn lock_at<L: LockFiles>(locks: &L, path: &str) -> Lock
+    ensures { LocksAt (L.opened locks.now) (L.asked locks.now) path.now result }
+{
+    match locks.open(path) {
+        Some(file) => {
+            let answer = locks.ask(path, &file);
+            lock_of(file, &answer)
+        }
+        None => Lock::Without,
+    }
 }
 
 /// Takes the lock of a run's account, unless the run changes nothing. If none is to be had, the run goes on
 /// without: that is told, if reasons are to be written.
-pub fn take_lock<R: Files<File = File> + Clock + AllocGlobal, E: Write>(
-    rt: &R,
+pub fn take_lock<L: LockFiles, E: Write>(
+    alloc: Global,
+    locks: &L,
     setup: &Setup,
     errors: &mut Errors<'_, E>,
 ) -> Lock
-    ensures { setup.now.pretends ≡ true → result ≡ Lock.Without }
+    ensures none { setup.now.pretends ≡ true → result ≡ Lock.Without }
+    ensures taken { setup.now.pretends ≡ false
+        → LocksAt (L.opened locks.now) (L.asked locks.now) (string_bytes setup.now.paths.lock) result }
 {
     if setup.pretends {
         return Lock::Without;
     }
-    let reasons = errors.reasons;
-    let system = System::new(rt, &reasons.before);
-    let lock = try_lock(&system, setup.paths.lock.as_str(), reasons);
+    let lock = lock_at(locks, setup.paths.lock.as_str());
     if let Lock::Without = &lock {
-        tell_unlocked(rt.alloc(), &setup.settings, errors);
+        tell_unlocked(alloc, &setup.settings, errors);
     }
     lock
 }
