@@ -13,9 +13,9 @@ use fetch_rules::Settings;
 use file_reading::ReadFile;
 use folder_store::{HostFile, HostFolder, HostMaildir, ProcessMark};
 use getmail_setup::{
-    Connection, Errors, Failure, Journal, Link, Lock, Output, Peer, Reasons, Setup, SystemLocks,
-    Words, connect, fail, failure_of, home, is_long_held, link_over, other_list, peer_of, set_up,
-    take_lock, warn_of_network,
+    Connection, Errors, Failure, Journal, Link, Lock, OnMachine, Output, Peer, Reasons, Setup,
+    SystemLocks, Words, connect, fail, failure_of, home, is_long_held, link_over, other_list,
+    peer_of, set_up, take_lock, warn_of_network,
 };
 use mail_store::{FlatFile, MaildirDisk};
 use pop3_wire::Wire;
@@ -148,7 +148,7 @@ fn stop_in_place<R: Files + AllocGlobal + Clone + Drop, E: Write>(
 ) -> Option<u8>
     ensures { IfSome result (λ status. ((failure : Failure) × (status ≡ status_of failure)) × (status ≤ 2)) }
 {
-    let list = match other_list(rt, setup) {
+    let list = match other_list(rt.alloc(), &OnMachine { rt }, setup) {
         Ok(Some(list)) => list,
         Ok(None) => return None,
         Err(_) => return Some(fail(rt.alloc(), Failure::NoMemory, None, errors)),

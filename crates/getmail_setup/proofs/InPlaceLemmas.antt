@@ -1,8 +1,13 @@
--- What is between a front and an end.
+-- What is between a front and an end; and lists of names.
+use Rattle.std.specs.List.{AllWithin}
 use Rattle.std.proofs.{
-  Common.{◌≡◌, ◌↔◌, ◌++◌, ◌∙◌, ℕ, Bool, List, IsTrue, ap, arith, drop, length, length-append, subst, sym, take, true},
+  Common.{◌≡◌, ◌↔◌, ◌++◌, ◌∙◌, ◌<◌, ℕ, Bool, List, [], ◌∷◌, IsTrue, ap, arith, drop, length, length-append, map, subst, sym, take},
+  Common.true,
   Math.Seq.{drop-append_seam, take-append_seam},
+  lemmas.List.{get_or-map, length-map},
 }
+use Rattle.std.specs.Prelude.{IfNone, IfSome, None, Option, Some, option_map}
+use Rattle.getmail_setup.specs.InPlace.{HasNone, IsFullList, TellsAmong}
 
 same_between : (front end x y : List ℕ) → front ++ (x ++ end) ≡ front ++ (y ++ end) → x ≡ y
 same_between front end x y same =
@@ -20,3 +25,19 @@ is_between P front text rest part end last r begins ends same is =
       λ yes. (part, sym is ∙ yes, whole),
       λ found. is ∙ subst (λ t. P t ≡ true) (same_between front end found.0 part (sym found.2 ∙ whole)) found.1,
     )
+
+-- what holds of the image of each item holds of each item of the images
+pub all_mapped : {X Y : Type 0} (f : X → Y) (P : Y → Type 0) (xs : List X) → AllWithin (λ x. P (f x)) xs 0 (length xs)
+    → AllWithin P (map f xs) 0 (length (map f xs))
+all_mapped f P [] all = λ k d low high. absurd (omega (arith, high))
+all_mapped f P (x ∷ xs) all = λ k d low high.
+    let within = subst (λ n. k < n) (length-map (x ∷ xs) f) high in
+    subst P (sym (get_or-map f (x ∷ xs) k x d within)) (all k x low within)
+
+-- what is found among some names, by their octets
+pub tells_among : {S : Type 0} (said : List ℕ → Bool → Type 0) (folder username : List ℕ) (bytes : S → List ℕ) (names : List S)
+    (found : Option S) → IfSome found (λ path. IsFullList said folder username (bytes path))
+    → IfNone found (AllWithin (λ name. HasNone said folder username (bytes name)) names 0 (length names))
+    → TellsAmong said folder username (map bytes names) (option_map bytes found)
+tells_among said folder username bytes names None some none = all_mapped bytes (HasNone said folder username) names none
+tells_among said folder username bytes names (Some path) some none = some

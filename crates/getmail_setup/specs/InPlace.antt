@@ -1,11 +1,13 @@
 -- The list of what getmail6 fetched, which a first run in its place would fetch again.
 use Rattle.std.specs.{
-  Prelude.{◌≡◌, ◌-◌, ◌++◌, ◌&&◌, ◌||◌, ◌==◌, ℕ, Bool, true, false, List, ◌∷◌, codes, length, map, nat_eq, nat_lt, take},
-  Prelude.if◌then◌else◌,
+  Prelude.{◌≡◌, ◌⊎◌, ◌-◌, ◌++◌, ◌&&◌, ◌||◌, ◌==◌, ℕ, Bool, true, false, List, ◌∷◌, codes, length, map, nat_eq, nat_lt},
+  Prelude.{Option, None, Some, if◌then◌else◌, take},
   Char.is_ascii_digit,
-  List.{dedup, ends_with, suffix_len},
+  List.{AllWithin, dedup, ends_with, suffix_len},
+  Str.Pattern.{RFindsChar, SplitsAroundMatch},
+  String.string_bytes,
 }
-use Rattle.getmail_setup.specs.Places.{joined}
+use Rattle.getmail_setup.specs.{Places.joined, declared.setup.Setup.Setup}
 
 -- an octet that getmail6 leaves in no name of a file: one of / \ : ; < > |
 abbrev pub is_mark : ℕ → Bool
@@ -42,3 +44,30 @@ IsFullList said folder username path =
 -- if a name is that of a list for this user, it was said that there is none, or an empty one
 abbrev pub HasNone : (List ℕ → Bool → Type 0) → List ℕ → List ℕ → List ℕ → Type 0
 HasNone said folder username name = IsListOf name username → said (joined folder name) false
+
+-- the folder that holds what a path names: what is before its last '/', and the program's own folder if it has none
+abbrev pub IsFolderOf : List ℕ → List ℕ → Type 0
+IsFolderOf path folder =
+    ((before : List ℕ) × (name : List ℕ) × SplitsAroundMatch (RFindsChar 47) path before name
+    × (folder ≡ (if length before == 0 then codes "/" else before)))
+    ⊎ (RFindsChar 47 path None × (folder ≡ codes "."))
+
+-- of some names of a folder none is that of a full list for this user, or the list is at this path
+abbrev pub TellsAmong : (List ℕ → Bool → Type 0) → List ℕ → List ℕ → List (List ℕ) → Option (List ℕ) → Type 0
+TellsAmong said folder username names None = AllWithin (HasNone said folder username) names 0 (length names)
+TellsAmong said folder username names (Some path) = IsFullList said folder username path
+
+-- that is what the names of the folder tell that holds the record
+abbrev pub TellsOfLists : (List ℕ → Bool → Type 0) → (List ℕ → List (List ℕ) → Type 0) → Setup → Option (List ℕ)
+    → Type 0
+TellsOfLists said gave setup found = (folder : List ℕ) × IsFolderOf (string_bytes setup.paths.record) folder
+    × (names : List (List ℕ)) × gave folder names
+    × TellsAmong said folder (string_bytes setup.settings.username) names found
+
+-- the list that stops a run: none if all mail is wanted or there is a record, else one that is beside the record's path
+abbrev pub IsOtherList : (List ℕ → Bool → Type 0) → (List ℕ → Bool → Type 0) → (List ℕ → List (List ℕ) → Type 0) → Setup
+    → Option (List ℕ) → Type 0
+IsOtherList said is_free gave setup found =
+    (((setup.settings.read_all ≡ true) ⊎ is_free (string_bytes setup.paths.record) false) × (found ≡ None))
+    ⊎ ((setup.settings.read_all ≡ false) × is_free (string_bytes setup.paths.record) true
+    × TellsOfLists said gave setup found)

@@ -1,19 +1,20 @@
 //! A list of what getmail6 fetched, in whose place a first run would fetch all mail again.
 ghost use Rattle.std.specs.{
-  Prelude.{◌≡◌, ◌≢◌, ◌≤◌, ◌++◌, ◌↔◌, ℕ, Bool, List, ◌∷◌, IfOk, IfSome, IfNone, IsTrue, MatchOption, length, map},
-  Prelude.true,
+  Prelude.{◌≡◌, ◌≢◌, ◌≤◌, ◌++◌, ◌↔◌, ℕ, Bool, List, ◌∷◌, IfOk, IfSome, IfNone, IsErrAnd, IsTrue, MatchOption, length},
+  Prelude.{map, option_map, true},
   Char.is_ascii_digit,
   List.{AllWithin, suffix_len},
+  IoError.error_kind,
   String.string_bytes,
 };
-ghost use Rattle.getmail_setup.specs.InPlace.{HasNone, IsFullList, IsListOf, dash_for, dashed, is_address, is_mark};
-ghost use Rattle.getmail_setup.specs.InPlace.{without_runs};
+ghost use Rattle.getmail_setup.specs.InPlace.{HasNone, IsFolderOf, IsFullList, IsListOf, IsOtherList};
+ghost use Rattle.getmail_setup.specs.InPlace.{dash_for, dashed, is_address, is_mark, without_runs};
 
 use crate::place::joined;
 use crate::setup::Setup;
 use std::alloc::{AllocError, Global};
 use std::fs;
-use std::io::ErrorKind;
+use std::io::{self, ErrorKind};
 use std::rt::Files;
 
 /// Whether getmail6 leaves an octet in no name of a file.
@@ -120,29 +121,74 @@ fn is_list_of(alloc: Global, name: &[u8], username: &[u8]) -> Result<bool, Alloc
     }
 }
 
-/// One that says of paths whether they lead to a file that isn't empty.
-trait LookAt {
-    // What it said of a path.
+/// One that looks at paths, and lists folders.
+pub trait LookAt {
+    // It said of a path whether it leads to a file that isn't empty.
     ghost said: { Self → List ℕ → Bool → Type 0 };
+
+    // It said of a path whether nothing is there.
+    ghost said_free: { Self → List ℕ → Bool → Type 0 };
+
+    // It gave these names of a folder.
+    ghost gave: { Self → List ℕ → List (List ℕ) → Type 0 };
 
     fn has_octets(&self, path: &str) -> bool
         ensures { said self.now path.now result };
+
+    fn is_free(&self, path: &str) -> bool
+        ensures { said_free self.now path.now result };
+
+    fn names(&self, folder: &str) -> Result<Vec<String>, AllocError>
+        ensures { IfOk result (λ names. gave self.now folder.now (map string_bytes names.items)) };
+}
+
+/// Whether the answer to a look at a path says that nothing is there. Of what can't be looked at it isn't known.
+fn says_free<T>(answer: &io::Result<T>) -> bool
+    ensures { IsTrue result ↔ IsErrAnd answer.now (λ error. error_kind error ≡ ErrorKind.NotFound) }
+{
+    match answer {
+        Ok(_) => false,
+        Err(error) => error.kind() == ErrorKind::NotFound,
+    }
 }
 
 /// A machine's files.
 #[derive(Drop)]
-struct OnMachine<'a, R> {
-    rt: &'a R,
+pub struct OnMachine<'a, R> {
+    pub rt: &'a R,
 }
 
-impl<'a, R: Files> LookAt for OnMachine<'a, R> {
+impl<'a, R: Files + AllocGlobal + Clone + Drop> LookAt for OnMachine<'a, R> {
     ghost said = { λ _ _ _. Unit {0} };
+
+    ghost said_free = { λ _ _ _. Unit {0} };
+
+    ghost gave = { λ _ _ _. Unit {0} };
 
     fn has_octets(&self, path: &str) -> bool {
         match fs::metadata(self.rt, path) {
             Ok(found) => found.is_file() && found.len() > 0,
             Err(_) => false,
         }
+    }
+
+    fn is_free(&self, path: &str) -> bool {
+        says_free(&fs::symlink_metadata(self.rt, path))
+    }
+
+    /// None if the folder can't be listed.
+    fn names(&self, folder: &str) -> Result<Vec<String>, AllocError> {
+        let alloc = self.rt.alloc();
+        let mut names = Vec::new(alloc);
+        let Ok(entries) = fs::read_dir(self.rt, folder) else {
+            return Ok(names);
+        };
+        for entry in entries {
+            if let Ok(entry) = entry {
+                names.push(String::from_str(alloc, entry.file_name())?)?;
+            }
+        }
+        Ok(names)
     }
 }
 
@@ -189,55 +235,33 @@ fn list_among<F: LookAt>(
     Ok(None)
 }
 
-/// Whether nothing is at a path. Of what can't be looked at it isn't known.
-fn is_free<R: Files>(rt: &R, path: &str) -> bool {
-    match fs::symlink_metadata(rt, path) {
-        Ok(_) => false,
-        Err(error) => error.kind() == ErrorKind::NotFound,
+/// The folder that holds what a path names.
+fn folder_of(path: &str) -> &str
+    ensures { IsFolderOf path.now result.now }
+{
+    match path.rsplit_once('/') {
+        Some((folder, _)) => { if folder.is_empty() { "/" } else { folder } }
+        None => ".",
     }
-}
-
-/// The names in a folder; none if it can't be listed.
-fn names_in<R: Files + AllocGlobal + Clone + Drop>(
-    rt: &R,
-    folder: &str,
-) -> Result<Vec<String>, AllocError> {
-    let alloc = rt.alloc();
-    let mut names = Vec::new(alloc);
-    let Ok(entries) = fs::read_dir(rt, folder) else {
-        return Ok(names);
-    };
-    for entry in entries {
-        if let Ok(entry) = entry {
-            names.push(String::from_str(alloc, entry.file_name())?)?;
-        }
-    }
-    Ok(names)
 }
 
 /// The path of a list of what getmail6 fetched for the user, if there is one beside where the record would be,
 /// there is no record, and only new messages are to be fetched: all of them would count as new.
-pub fn other_list<R: Files + AllocGlobal + Clone + Drop>(
-    rt: &R,
+pub fn other_list<F: LookAt>(
+    alloc: Global,
+    files: &F,
     setup: &Setup,
 ) -> Result<Option<String>, AllocError>
-    ensures { setup.now.settings.read_all ≡ true → IfOk result (λ found. found ≡ None) }
+    ensures { IfOk result (λ found. IsOtherList (F.said files.now) (F.said_free files.now) (F.gave files.now) setup.now
+        (option_map string_bytes found)) }
 {
     let record = setup.paths.record.as_str();
-    if setup.settings.read_all || !is_free(rt, record) {
+    if setup.settings.read_all || !files.is_free(record) {
         return Ok(None);
     }
-    let Some((folder, _)) = record.rsplit_once('/') else {
-        return Ok(None);
-    };
-    let folder = if folder.is_empty() { "/" } else { folder };
-    let names = names_in(rt, folder)?;
+    let folder = folder_of(record);
+    let names = files.names(folder)?;
     let username = setup.settings.username.as_str();
-    list_among(
-        rt.alloc(),
-        &OnMachine { rt },
-        folder,
-        names.as_slice(),
-        username,
-    )
+    let found = list_among(alloc, files, folder, names.as_slice(), username)?;
+    Ok(found)
 }

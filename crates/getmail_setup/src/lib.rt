@@ -23,7 +23,7 @@ pub use connection::{
 };
 pub use errors::{Errors, Reasons, fail, tell_reason, warn_of_network};
 pub use failure::{Failure, OUT_OF_MEMORY, explain, failure_of, tell};
-pub use in_place::other_list;
+pub use in_place::{LookAt, OnMachine, other_list};
 pub use journal::{Journal, Kept, LeftOut, Part, Subject};
 pub use listed::Large;
 pub use lock::{Lock, LockFiles, SystemLocks, take_lock};
