@@ -200,17 +200,26 @@ class Networks(unittest.TestCase):
 
 
 class OverStandardStreams(unittest.TestCase):
-    def run_popd(self, *words):
+    def run_popd(self, *words, **changes):
         with Maildir() as maildir:
             maildir.add("new", "a", b"one\n")
             given = b"USER u\r\nPASS \x1bq\r\nUSER u\r\nPASS p\r\nDELE 1\r\nQUIT\r\n"
-            return programs.run("popd", *words, "u", maildir.passfile, maildir.folder, given=given)
+            return programs.run("popd", *words, "u", maildir.passfile, maildir.folder, given=given, **changes)
 
     def test_with_the_option(self):
         told = [f"popd: standard input: {line}\n"
                 for line in ("login refused", "logged in, 1 messages", "1 messages removed")]
         run = self.run_popd("--verbose")
         self.assertEqual((run.status, run.err.decode()), (0, "".join(told)))
+
+    def test_a_client_whose_address_is_given(self):
+        """As systemd gives it; what is no address isn't shown."""
+        for address, port, peer in (("192.0.2.7", "40123", "192.0.2.7:40123"), ("2001:db8::7", "9", "[2001:db8::7]:9"),
+                                    ("192.0.2.7", None, "standard input"), (None, "9", "standard input"),
+                                    ("a\x1b[2J", "9", "standard input"), ("192.0.2.7", "99999", "standard input")):
+            with self.subTest(address=address, port=port):
+                run = self.run_popd("--verbose", REMOTE_ADDR=address, REMOTE_PORT=port)
+                self.assertEqual({line.rsplit(": ", 1)[0] for line in run.err.decode().splitlines()}, {f"popd: {peer}"})
 
     def test_of_a_rehearsal(self):
         run = programs.run("popd", "--rehearse", "--verbose", given=b"USER u\r\nPASS p\r\nDELE 1\r\nQUIT\r\n")

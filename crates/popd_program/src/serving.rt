@@ -47,12 +47,11 @@ where
     TracedWire::new(alloc, link, refusals.trace(), None, None)
 }
 
-/// Serves standard input and output, and tells what happens there if `verbose` asks for it. Nothing
-/// is removed unless the session came to QUIT.
+/// Serves standard input and output, and tells what happens there. Nothing is removed unless the session came to QUIT.
 pub fn serve_streams<R, I, O, D>(
     system: &System<'_, R>,
     server: &mut Server<D>,
-    verbose: bool,
+    mut telling: Telling<'_, R>,
     streams: (I, O),
 ) -> Result<(), ServerFault>
 where
@@ -63,22 +62,17 @@ where
     requires { is_open server.old.state ≡ true }
     ensures { is_open server.new.state ≡ true → (D.mail server.new.drop).removals ≡ (D.mail server.old.drop).removals }
 {
-    let mut telling = Telling {
-        rt: system.rt,
-        verbose,
-        peer: Peer::StandardInput,
-    };
     let (input, output) = ((streams.0, STANDARD_INPUT), (streams.1, STANDARD_OUTPUT));
     let mut wire = link_over(system, input, output);
     serve_and_note(server, &mut wire, &mut telling)
 }
 
-/// Serves the account's Maildir over standard input and output, and tells what happens there if `verbose` asks
-/// for it. Nothing is removed unless the session came to QUIT.
+/// Serves the account's Maildir over standard input and output, and tells what happens there. Nothing is removed unless
+/// the session came to QUIT.
 pub fn serve_maildir<'a, R, I, O>(
     system: &System<'_, R>,
     account: Account,
-    verbose: bool,
+    mut telling: Telling<'_, R>,
     streams: (I, O),
     maildir: MaildirDrop<'a, R>,
 ) -> Visit<'a, R>
@@ -88,11 +82,6 @@ where
     O: Write + Drop,
     ensures { result.maildir.removals ≡ removals_by result.quit maildir.entry.removals }
 {
-    let mut telling = Telling {
-        rt: system.rt,
-        verbose,
-        peer: Peer::StandardInput,
-    };
     let mut journal = HoldingJournal {
         rt: system.rt,
         journal: &mut telling,

@@ -8,6 +8,7 @@ use crate::account::read_account;
 use crate::failure::{Failure, end, failure_of, tell_reason};
 use crate::rehearsal::rehearsal_server;
 use crate::serving::{listen, serve_maildir, serve_streams};
+use crate::telling::{Peer, Telling};
 use crate::warning::warn_of;
 use crate::words::{Words, command, read_words};
 use clap::Error;
@@ -16,7 +17,7 @@ use command_line::show;
 use pop3_server::ServerFault;
 use std::env;
 use std::io::{IsTerminal, Read, Stderr, Write};
-use std::net::{Net, TcpListener, TcpStream};
+use std::net::{IpAddr, Net, SocketAddr, TcpListener, TcpStream};
 use std::random::RandomSource;
 use std::rt::{Clock, Env, Files};
 use system_calls::{Refusals, System};
@@ -40,6 +41,7 @@ fn run<'a, R, I, O>(
     system: &System<'_, R>,
     words: &'a Words,
     tells_reasons: bool,
+    peer: Peer,
     streams: (I, O),
 ) -> Result<(), Failure<'a>>
 where
@@ -49,12 +51,17 @@ where
     O: Write + Drop,
     ensures { MatchResult result (λ _. has_right_count words.now ≡ true) (IsCause words.now) }
 {
+    let telling = Telling {
+        rt: system.rt,
+        verbose: words.verbose,
+        peer,
+    };
     if words.rehearse {
         if !words.is_bare() {
             return Err(Failure::WrongCount);
         }
         let mut server = rehearsal_server(system.alloc())?;
-        return Ok(serve_streams(system, &mut server, words.verbose, streams)?);
+        return Ok(serve_streams(system, &mut server, telling, streams)?);
     }
     let account = read_account(system.alloc(), system, words)?;
     warn_of(system, &account, words.passfile.as_deref())?;
@@ -71,7 +78,7 @@ where
             )?;
             Ok(())
         }
-        None => Ok(serve_maildir(system, account, words.verbose, streams, maildir).served?),
+        None => Ok(serve_maildir(system, account, telling, streams, maildir).served?),
     }
 }
 
@@ -99,11 +106,25 @@ fn show_usage<R: Eprint + AllocGlobal>(rt: &R) {
     }
 }
 
+/// The client at standard input: its address, if what started the program gives that, as systemd does.
+fn peer_of<R: Env + AllocGlobal>(rt: &R) -> Peer {
+    let (Ok(address), Ok(port)) = (env::var(rt, "REMOTE_ADDR"), env::var(rt, "REMOTE_PORT")) else {
+        return Peer::StandardInput;
+    };
+    match (
+        address.as_str().parse::<IpAddr>(),
+        port.as_str().parse::<u16>(),
+    ) {
+        (Ok(address), Ok(port)) => Peer::Address(SocketAddr::new(address, port)),
+        _ => Peer::StandardInput,
+    }
+}
+
 /// Does what the command line asks for, and returns the exit status. The reason of a failure follows its
 /// line with `--verbose` and on a terminal.
 fn obey_words<R, I, O>(rt: &R, words: &Words, streams: (I, O), err: Stderr) -> u8
 where
-    R: Net<Listener = TcpListener, Stream = TcpStream> + Files + Clock,
+    R: Net<Listener = TcpListener, Stream = TcpStream> + Files + Env + Clock,
     R: RandomSource + AllocGlobal + Eprint + Copy + Drop,
     I: Read + Drop,
     O: Write + Drop,
@@ -111,7 +132,13 @@ where
 {
     let refusals = Refusals::new(rt.alloc(), if words.trace { Some(err) } else { None });
     let tells_reasons = words.verbose || err.is_terminal();
-    let outcome = run(&System::new(rt, &refusals), words, tells_reasons, streams);
+    let outcome = run(
+        &System::new(rt, &refusals),
+        words,
+        tells_reasons,
+        peer_of(rt),
+        streams,
+    );
     let status = end(rt, outcome);
     if tells_reasons {
         tell_reason(rt, outcome, &refusals);

@@ -6,7 +6,7 @@ use std::net::{SocketAddr, TcpListener};
 /// The client that is served.
 #[derive(Clone, Copy)]
 pub enum Peer {
-    /// The one at standard input.
+    /// The one at standard input, whose address isn't known.
     StandardInput,
     /// The one that connected from this address.
     Address(SocketAddr),
