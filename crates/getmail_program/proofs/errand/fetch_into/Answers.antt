@@ -7,5 +7,5 @@ returns-clause-fetched g c =
     let same = c.settings-settings.ensures.value ∙ told.same.settings in (
       c.hold-told.result,
       told.held,
-      record { reported = told.reported; errors = rw (c.refusal.ensures, same) at c.tell_all.ensures.told },
+      record { reported = told.reported; errors = rw (c.refusal.ensures, same) at c.tell_all-fetched.ensures.told },
     )
