@@ -21,7 +21,7 @@ Arguments:
 
 Options:
       --listen <ADDRESS>  Serve TCP connections to ADDRESS, HOST:PORT, one after the other [standard input and output]
-      --connections <N>   End after N connections [4294967295]
+      --connections <N>   End after N connections
       --rehearse...       Serve two small messages to user u with password p on standard input and output
       --verbose...        Report where it listens, logins, refused logins and removals on standard error
       --trace...          Show conversations and refused calls of the system on standard error

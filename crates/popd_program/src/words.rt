@@ -50,7 +50,7 @@ const USAGE: &str = "popd [OPTIONS] USER PASSFILE MAILDIR\n       popd --rehears
 const LISTEN: &str =
     "Serve TCP connections to ADDRESS, HOST:PORT, one after the other [standard input and output]";
 
-const CONNECTIONS: &str = "End after N connections [4294967295]";
+const CONNECTIONS: &str = "End after N connections";
 
 const REHEARSE: &str =
     "Serve two small messages to user u with password p on standard input and output";
