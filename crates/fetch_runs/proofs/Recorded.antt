@@ -8,7 +8,7 @@ use Rattle.fetch_record.specs.{Record.{Intent, Row, RecordState, is_delivered, m
 use Rattle.fetch_session.specs.{
   Record.{Keeps, KeepsRows, record_state},
   Durable.{AreTrusted, DurableSession, DurableUnready, IsSafeFile, LeavesMerged},
-  declared.{account.Store.Store, fault.Cut.Cut, report.{Outcome.{TheVariants.Ended}, Report.Report}},
+  declared.{account.Store.Store, fault.Cut.Cut, report.Report.Report},
   Readiness.{IsMerged, IsMergedAtMost, merged_in},
   Session.{SessionIn, keeping},
   Target.{AsEntries, AsFiles, Stores, Target, closed_rows_in, is_stored, mail_in, none_held},

@@ -1,6 +1,6 @@
 -- Visits of an account are calls of `session`, one after another.
 use Rattle.std.proofs.{
-  Common.{◌≡◌, ℕ, false, List, [], ◌∷◌, ◌++◌, append_assoc, refl, sym, ap, subst, arith, ◌∙◌, rules},
+  Common.{◌≡◌, false, List, [], ◌∷◌, ◌++◌, append_assoc, refl, sym, ap, subst, arith, ◌∙◌, rules},
   lemmas.List.append-nil,
 }
 use Rattle.pop3_wire.specs.{World.Message, declared.wire.Wire.Ghosts as WireGhosts}

@@ -15,7 +15,6 @@ use Rattle.mail_terms.specs.UniqueId.{has_id}
 use Rattle.fetch_record.specs.Record.{is_delivered}
 use Rattle.pop3_wire.specs.{World.Message, declared.wire.Wire.Ghosts as WireGhosts}
 use Rattle.pop3_server.specs.{declared.maildrop.Maildrop.Ghosts as DropGhosts, LoopLink.{Loop, Serves}}
-use Rattle.rc_file.specs.declared.settings.Settings.{Settings}
 use Rattle.fetch_rules.specs.Wanted.{fitting}
 use Rattle.fetch_session.specs.{
   declared.account.Store.TheVariants.Maildir as InMaildir,
@@ -23,9 +22,9 @@ use Rattle.fetch_session.specs.{
   Session.{Session, account_files},
 }
 use Rattle.fetch_runs.{
-  specs.{Accounts.{AccountMail, copies}, Steps.IsIn, Below.Below, Conversations.SessionsAreConversations},
-  specs.Promises.{Call, ComesFor, Devices, FetchesWanted, Invariant, IsMaildrop, IsOf, IsSafe, Mail, OneComes, State},
-  specs.Promises.{is_safe, may_fetch, state_with},
+  specs.{Accounts.AccountMail, Steps.IsIn, Below.Below, Conversations.SessionsAreConversations},
+  specs.Promises.{Call, ComesFor, Devices, Invariant, IsOf, IsSafe, Mail, OneComes, State},
+  specs.Promises.{may_fetch, state_with},
   specs.Calls.{Called, Happening, Left, Lost, Shows, with_left},
   proofs.Core.message_size,
   proofs.Lists.{all_back, all_both, all_front, all_ids_at, all_map, bytes_self},
