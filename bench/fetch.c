@@ -261,7 +261,7 @@ int main(int argc, char **argv)
     need(setsockopt(server, IPPROTO_TCP, TCP_NODELAY, &on, sizeof on) == 0);
     take_line(line, sizeof line);
     ask("USER u\r\n", line, sizeof line);
-    ask("PASS p\r\n", line, sizeof line);
+    ask("PASS sesame\r\n", line, sizeof line);
     ask("STAT\r\n", line, sizeof line);
     count = atoi(line + 4);
     listing("UIDL\r\n", count);

@@ -56,7 +56,7 @@ def fresh_maildir(path):
 def make_served(folder, count, octets):
     """A Maildir of `count` messages of about `octets` octets each, and a password beside it."""
     maildir = fresh_maildir(folder / "served")
-    (folder / "password").write_bytes(b"p\n")
+    (folder / "password").write_bytes(b"sesame\n")
     for number in range(count):
         (maildir / "new" / f"{number:06}").write_bytes(LETTER_LINE * (octets // len(LETTER_LINE)))
 

@@ -68,7 +68,7 @@ int fdatasync(int descriptor) { return fsync(descriptor); }
 COUNTED = 200
 FEW, MORE = 10, 110
 CALL = re.compile(r"(\w+)\(")
-MPOP = ["mpop", "--file=/dev/null", "--user=u", "--passwordeval=echo p", "--tls=off", "--auth=user", "--quiet",
+MPOP = ["mpop", "--file=/dev/null", "--user=u", "--passwordeval=echo sesame", "--tls=off", "--auth=user", "--quiet",
         "--received-header=off", "--pipelining=off", "--keep=on", "--only-new=on"]
 
 

@@ -31,10 +31,10 @@ SECONDS = 3
 HEAD = "From: a@example.org\nTo: u@example.org\nSubject: {0}\nMessage-Id: <{0}@example.org>\nDate: Sun, 22 Nov 2026 12:00:00 +0000\n\n"
 TEXTS = {uid: (HEAD.format(uid) + f"text of {uid}\n.\nend of {uid}\n").encode() for uid in ("first", "second", "third")}
 FETCHMAILRC = """poll {host} service {port} protocol pop3 uidl auth password
-user "u" password "p" {keep} sslproto "" mda "{home}/store"
+user "u" password "sesame" {keep} sslproto "" mda "{home}/store"
 """
 STORE = '#!/bin/sh\ncd {home}/Maildir && cat > tmp/$$ && mv tmp/$$ new/$$.$(date +%s%N)\n'
-MPOP = ["mpop", "--file=/dev/null", "--user=u", "--passwordeval=echo p", "--tls=off", "--auth=user", "--half-quiet",
+MPOP = ["mpop", "--file=/dev/null", "--user=u", "--passwordeval=echo sesame", "--tls=off", "--auth=user", "--half-quiet",
         "--received-header=off"]
 
 

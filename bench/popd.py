@@ -72,7 +72,7 @@ class Client:
 
     def log_in(self):
         self.reply(b"\r\n")
-        for command in (b"USER u\r\n", b"PASS p\r\n"):
+        for command in (b"USER u\r\n", b"PASS sesame\r\n"):
             self.socket.sendall(command)
             self.reply(b"\r\n")
 
@@ -134,7 +134,7 @@ def make_maildir(folder, count, octets):
     for part in ("tmp", "new", "cur"):
         (maildir / part).mkdir(parents=True)
     password = Path(folder) / "password"
-    password.write_bytes(b"p\n")
+    password.write_bytes(b"sesame\n")
     password.chmod(0o600)
     for number in range(count):
         (maildir / "new" / f"{number:06}").write_bytes(LETTER_HEAD + LETTER_LINE * (octets // len(LETTER_LINE)))
@@ -192,7 +192,7 @@ def visit(port, count):
     client.reply(b"\r\n")
     client.ask(b"USER u\r\n")
     marks = [time.perf_counter()]
-    client.ask(b"PASS p\r\n")
+    client.ask(b"PASS sesame\r\n")
     client.ask(b"STAT\r\n")
     marks.append(time.perf_counter())
     for command in (b"LIST\r\n", b"UIDL\r\n"):

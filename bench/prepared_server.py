@@ -23,7 +23,7 @@ def reply_to_retrieval(path):
 
 def prepared(paths):
     """The reply to each command that the benchmark's client sends."""
-    replies = {b"USER u": b"+OK send PASS\r\n", b"PASS p": b"+OK %d messages\r\n" % len(paths), b"QUIT": b"+OK bye\r\n"}
+    replies = {b"USER u": b"+OK send PASS\r\n", b"PASS sesame": b"+OK %d messages\r\n" % len(paths), b"QUIT": b"+OK bye\r\n"}
     for number, path in enumerate(paths, 1):
         replies[b"RETR %d" % number] = reply_to_retrieval(path)
     return replies

@@ -142,7 +142,7 @@ class Fetched(unittest.TestCase):
     @unittest.skipUnless(shutil.which("mpop"), "mpop is not installed")
     def test_mpop(self):
         uids = self.home / "uids"
-        self.fetch("mpop", "--file=/dev/null", f"--host={LOOPBACK}", f"--port={self.port}", "--user=u", "--passwordeval=echo p",
+        self.fetch("mpop", "--file=/dev/null", f"--host={LOOPBACK}", f"--port={self.port}", "--user=u", "--passwordeval=echo sesame",
                    "--tls=off", "--auth=user", f"--delivery=maildir,{self.home}/Maildir", f"--uidls-file={uids}", "--keep=on")
         self.check_goes_on("mpop", uids)
 
@@ -152,7 +152,7 @@ class Fetched(unittest.TestCase):
         store.write_text(f"#!/bin/sh\ncat > {self.home}/Maildir/new/$$\n")
         store.chmod(0o755)
         settings.write_text(f"poll {LOOPBACK} service {self.port} protocol pop3 uidl auth password\n"
-                            f'user "u" password "p" keep sslproto "" mda "{store}"\n')
+                            f'user "u" password "sesame" keep sslproto "" mda "{store}"\n')
         settings.chmod(0o600)
         self.fetch("fetchmail", "-s", "-f", str(settings), "-i", str(uids))
         self.check_goes_on("fetchmail", uids)

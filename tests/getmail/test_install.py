@@ -489,7 +489,7 @@ class Dist(Copied):
     def fill_homes(self, root, port):
         """Fred's Maildir with a message, and the settings of Ann."""
         (make_maildir(root / "fred/served") / "new/1").write_bytes(MESSAGE)
-        (root / "fred/password").write_text("p\n")
+        (root / "fred/password").write_text("sesame\n")
         (root / "fred/password").chmod(0o600)
         make_maildir(root / "ann/Maildir")
         (root / "ann/.getmail").mkdir()
@@ -703,7 +703,7 @@ class Readme(Copied):
         with tempfile.TemporaryDirectory() as holder:
             self.assertRegex(line, r"^env popd --listen 127\.0\.0\.1:1100 USER PASSFILE MAILDIR$")
             (make_maildir(Path(holder) / "Maildir") / "new/1").write_bytes(MESSAGE)
-            (Path(holder) / "password").write_text("p\n")
+            (Path(holder) / "password").write_text("sesame\n")
             (Path(holder) / "password").chmod(0o600)
             words = line.replace(":1100", f":{port}").replace("USER PASSFILE MAILDIR", "u password Maildir").split()
             path = f"{Path(programs.path_of('popd')).parent}:{os.environ['PATH']}"

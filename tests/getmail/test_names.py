@@ -99,7 +99,7 @@ class Sizes(Names):
         client = poplib.POP3("127.0.0.1", port, timeout=programs.SECONDS)
         self.addCleanup(client.close)
         client.user("u")
-        client.pass_("p")
+        client.pass_("sesame")
         self.assertEqual(sorted(int(row.split()[1]) for row in client.list()[1]), sorted(size_of(text) for _, text in MESSAGES))
         client.quit()
         for line in (folder / "log").read_text().splitlines():

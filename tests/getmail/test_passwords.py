@@ -6,6 +6,7 @@ import unittest
 
 from getmail.account import Account
 from getmail.server import Server
+from getmail.test_why import PASSWORD as HINT
 from harness import programs
 from harness.kernel import LOOPBACK
 
@@ -82,8 +83,10 @@ class Passwords(unittest.TestCase):
     def check_reason(self, word, answer, shown):
         """What `--why` writes about a command that is answered so."""
         run = self.session(word, answer, "--why")
-        told = b"getmail: server refused %s\ngetmail: u@%s:%d: the server said: %s\n" % (
-            word, LOOPBACK.encode(), self.server.port, shown)
+        account = b"u@%s:%d" % (LOOPBACK.encode(), self.server.port)
+        told = b"getmail: server refused %s\ngetmail: %s: the server said: %s\n" % (word, account, shown)
+        if word == b"PASS" and (shown.startswith(b"-ERR [AUTH]") or not shown.startswith(b"-ERR [")):
+            told += b"getmail: %s: %s\n" % (account, HINT.encode())
         self.assertEqual((run.status, run.out, run.err), (1, b"", told))
 
     def test_what_repeats_it_is_not_the_reason(self):

@@ -22,7 +22,7 @@ TEXTS = {
 
 class Together(unittest.TestCase):
     def setUp(self):
-        self.served = Maildir()
+        self.served = Maildir(b"sesame\n")
         self.addCleanup(self.served.holder.cleanup)
         service = Service(self.served)
         service.__enter__()

@@ -9,6 +9,7 @@ from contextlib import contextmanager
 from getmail.account import Account
 from getmail.mbox_account import MboxAccount
 from getmail.server import Server
+from getmail.test_why import MAILDIR
 from harness import programs, refused_steps
 from harness.kernel import LOOPBACK
 from harness.mboxrd import entries
@@ -140,9 +141,10 @@ class Session(unittest.TestCase):
     def test_a_missing_folder(self):
         shutil.rmtree(self.account.maildir / "new")
         run = self.session("--trace", "--why")
-        *lines, fault, reason = lines_of(run)
+        *lines, fault, reason, hint = lines_of(run)
         self.assertEqual((run.status, fault), (1, "getmail: destination missing"))
-        self.assertRegex(reason, f"{self.account.maildir}/new.*: {NO_MEMBER}$")
+        self.assertRegex(reason, f"{self.account.maildir}/new: {NO_MEMBER}$")
+        self.assertTrue(hint.endswith(MAILDIR), hint)
         self.assertIn(f"trace: stat {self.account.maildir}/new: {NO_MEMBER}", lines)
 
     def test_an_rc_file_that_is_not_there(self):

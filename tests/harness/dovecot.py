@@ -18,7 +18,7 @@ pop3_uidl_format = %f
 default_vsz_limit = 2G
 passdb {{
   driver = static
-  args = password=p
+  args = password=sesame
 }}
 userdb {{
   driver = static

@@ -1,6 +1,6 @@
 -- Why a session was cut: the place of its fault, and what is known of the cause.
 use Rattle.std.specs.{
-  Prelude.{◌&&◌, ◌==◌, ℕ, Bool, true, List, [], ◌++◌, codes, length, if◌then◌else◌},
+  Prelude.{◌&&◌, ◌==◌, ℕ, Bool, true, List, [], ◌++◌, codes, length, not, if◌then◌else◌},
   Fmt.decimal,
   String.string_bytes,
 }
@@ -12,7 +12,7 @@ use Rattle.fetch_session.specs.declared.{
   fault.Fault.TheVariants.{ListingsDisagree, TooMany, TextTooLong, StoreRefused, SeenRefused, NoMemory, BadSeen},
   report.Outcome.{Outcome, TheVariants.Cut},
 }
-use Rattle.trace.specs.declared.talk.Said.{Said}
+use Rattle.trace.specs.{Masking.begins, declared.talk.Said.Said}
 use Rattle.getmail_setup.specs.Places.{account_name, is_local}
 use Rattle.getmail_program.specs.declared.findings.Findings.{Findings}
 use Rattle.fetch_session.specs.declared.fault.Why.TheVariants as why
@@ -79,14 +79,22 @@ abbrev pub rights_hint : Findings → List ℕ
 rights_hint found = if found.is_denied
     then codes "it wants rights to read and write: chmod -R u+rwX gives them, if it is yours" else []
 
+-- an answer with another response code than AUTH says the cause itself (RFC 2449, RFC 3206)
+abbrev pub says_cause : List ℕ → Bool
+says_cause answer = begins answer (codes "-ERR [") && not (begins answer (codes "-ERR [AUTH]"))
+
+-- a name or a password that is wrong can be mended
+abbrev pub login_hint : Findings → List ℕ
+login_hint found = if says_cause found.said.answer.items then []
+    else codes "username or password is wrong; in the rc file a comment has a line of its own"
+
 -- what else may help, where there is one remedy
 abbrev pub hint_text : Settings → Fault → Findings → List ℕ
 hint_text settings ConnectionEnded found = tunnel_hint settings found
 hint_text settings ReadFailed found = tunnel_hint settings found
 hint_text settings BadReply found = if length found.said.command.items == 0
     then codes "no POP3 server answers there: most have port 110" else []
-hint_text settings (Refused Pass) found =
-    codes "username or password is wrong; in the rc file a comment has a line of its own"
+hint_text settings (Refused Pass) found = login_hint found
 hint_text settings (StoreRefused why.Missing) found = missing_hint settings.dest
 hint_text settings (StoreRefused why.Refused) found = rights_hint found
 hint_text settings SeenRefused found = rights_hint found

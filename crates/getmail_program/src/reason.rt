@@ -2,7 +2,7 @@
 ghost use Rattle.std.specs.{Prelude.{◌≡◌, ◌++◌, IfOk, codes}, String.string_bytes};
 ghost use Rattle.getmail_program.specs.Reasons.{hint_text, is_by_a_tunnel, line_if_any, or_else, place_in, rights_hint};
 ghost use Rattle.getmail_program.specs.Reasons.{missing_hint, reason_line, reason_text, reasons_of, reasons_said};
-ghost use Rattle.getmail_program.specs.Reasons.{rows_text, tunnel_hint};
+ghost use Rattle.getmail_program.specs.Reasons.{login_hint, rows_text, says_cause, tunnel_hint};
 
 use crate::findings::Findings;
 use fetch_rules::{Dest, Settings};
@@ -172,6 +172,24 @@ fn rights_hint(found: &Findings) -> &'static str
     }
 }
 
+/// Whether an answer has another response code than AUTH, which says the cause itself (RFC 2449, RFC 3206).
+fn says_cause(answer: &[u8]) -> bool
+    ensures { result ≡ says_cause answer.now }
+{
+    answer.starts_with(b"-ERR [") && !answer.starts_with(b"-ERR [AUTH]")
+}
+
+/// A name or a password that is wrong can be mended.
+fn login_hint(found: &Findings) -> &'static str
+    ensures { result.now ≡ login_hint found.now }
+{
+    if says_cause(&found.said.answer) {
+        ""
+    } else {
+        "username or password is wrong; in the rc file a comment has a line of its own"
+    }
+}
+
 /// What else may help, where there is one remedy; empty if nothing is known to.
 fn hint_text(settings: &Settings, fault: &Fault, found: &Findings) -> &'static str
     ensures { result.now ≡ hint_text settings.now fault.now found.now }
@@ -181,9 +199,7 @@ fn hint_text(settings: &Settings, fault: &Fault, found: &Findings) -> &'static s
         Fault::BadReply if found.said.command.is_empty() => {
             "no POP3 server answers there: most have port 110"
         }
-        Fault::Refused(Asked::Pass) => {
-            "username or password is wrong; in the rc file a comment has a line of its own"
-        }
+        Fault::Refused(Asked::Pass) => login_hint(found),
         Fault::StoreRefused(Why::Missing) => missing_hint(&settings.dest),
         Fault::StoreRefused(Why::Refused) | Fault::SeenRefused => rights_hint(found),
         Fault::TextTooLong => "max_message_size passes such a message over",
