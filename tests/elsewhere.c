@@ -3,16 +3,15 @@
        cc -O1 -shared -fPIC -o elsewhere.so elsewhere.c -ldl
        LD_PRELOAD=./elsewhere.so PROGRAM .. */
 
-#define _GNU_SOURCE
+#include "preloaded.h"
 #include <arpa/inet.h>
-#include <dlfcn.h>
 #include <netdb.h>
 #include <netinet/in.h>
 #include <sys/socket.h>
 
 int getaddrinfo(const char *host, const char *service, const struct addrinfo *hints, struct addrinfo **found)
 {
-    int (*next)(const char *, const char *, const struct addrinfo *, struct addrinfo **) = dlsym(RTLD_NEXT, "getaddrinfo");
+    NEXT(getaddrinfo);
 
     (void)host;
     return next("192.0.2.1", service, hints, found);
@@ -20,7 +19,7 @@ int getaddrinfo(const char *host, const char *service, const struct addrinfo *hi
 
 int connect(int socket, const struct sockaddr *address, socklen_t size)
 {
-    int (*next)(int, const struct sockaddr *, socklen_t) = dlsym(RTLD_NEXT, "connect");
+    NEXT(connect);
     struct sockaddr_in here = *(const struct sockaddr_in *)address;
 
     if (here.sin_family != AF_INET || here.sin_addr.s_addr != inet_addr("192.0.2.1"))

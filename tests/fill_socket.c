@@ -6,33 +6,20 @@
    Before the third send of the program its socket is filled, up to the last octet that the server's side and its own
    take. If the server reads nothing, that send waits as long as the program's bound on it lasts. */
 
-#define _GNU_SOURCE
-#include <dlfcn.h>
-#include <stdlib.h>
+#include "preloaded.h"
 #include <sys/socket.h>
-#include <unistd.h>
 
 static const useconds_t SETTLED = 20000;
-
-static ssize_t (*next_send)(int, const void *, size_t, int);
-static long sends_left;
-
-__attribute__((constructor)) static void begin(void)
-{
-    const char *number = getenv("FILL_BEFORE");
-
-    next_send = dlsym(RTLD_NEXT, "send");
-    sends_left = number ? atol(number) : 0;
-}
 
 /* What the program's side holds goes over to the server's while there is room, so that it takes more a moment later. */
 static void fill(int socket)
 {
+    NEXT(send);
     static const char octets[65536];
     int refused = 0;
 
     while (refused < 5) {
-        if (next_send(socket, octets, sizeof octets, MSG_DONTWAIT | MSG_NOSIGNAL) > 0) {
+        if (next(socket, octets, sizeof octets, MSG_DONTWAIT | MSG_NOSIGNAL) > 0) {
             refused = 0;
         } else {
             refused++;
@@ -43,7 +30,10 @@ static void fill(int socket)
 
 ssize_t send(int socket, const void *octets, size_t count, int flags)
 {
-    if (sends_left > 0 && --sends_left == 0)
+    NEXT(send);
+    static long sends = 0;
+
+    if (++sends == number_in("FILL_BEFORE", 0))
         fill(socket);
-    return next_send(socket, octets, count, flags);
+    return next(socket, octets, count, flags);
 }

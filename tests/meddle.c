@@ -15,27 +15,11 @@
    nothing of all this happens before the file of that path is there. A file is known by the path that the program gives,
    or by that of the open folder through which it gives it; a folder's ends with a slash. */
 
-#define _GNU_SOURCE
+#include "preloaded.h"
 #include <dirent.h>
-#include <dlfcn.h>
-#include <errno.h>
-#include <stdarg.h>
-#include <stdio.h>
-#include <stdlib.h>
-#include <string.h>
-#include <sys/types.h>
-#include <unistd.h>
-#include "way.h"
 
 static int read_file = -1;
 static int broken_file = -1;
-
-static int is_named(const char *path, const char *variable)
-{
-    const char *name = getenv(variable);
-
-    return name && strcmp(path, name) == 0;
-}
 
 static int is_on(void)
 {
@@ -79,10 +63,7 @@ static int meddle(const char *given)
         move();
     if (is_named(path, "MEDDLE_RESTLESS"))
         move_to_and_fro();
-    if (!is_named(path, "MEDDLE_REFUSED"))
-        return 0;
-    errno = EACCES;
-    return -1;
+    return is_named(path, "MEDDLE_REFUSED") ? refused(EACCES) : 0;
 }
 
 static int noted(const char *given, int file)
@@ -99,70 +80,42 @@ static int noted(const char *given, int file)
 
 int open(const char *path, int flags, ...)
 {
-    static int (*real)(const char *, int, ...);
-    va_list more;
-    mode_t mode;
+    NEXT(open);
 
-    if (!real)
-        real = dlsym(RTLD_NEXT, "open");
-    va_start(more, flags);
-    mode = va_arg(more, mode_t);
-    va_end(more);
-    return meddle(path) ? -1 : noted(path, real(path, flags, mode));
+    return meddle(path) ? -1 : noted(path, next(path, flags, MODE_BEHIND(flags)));
 }
 
 int openat(int folder, const char *path, int flags, ...)
 {
-    static int (*real)(int, const char *, int, ...);
-    va_list more;
-    mode_t mode;
+    NEXT(openat);
 
-    if (!real)
-        real = dlsym(RTLD_NEXT, "openat");
-    va_start(more, flags);
-    mode = va_arg(more, mode_t);
-    va_end(more);
-    return meddle(path) ? -1 : noted(path, real(folder, path, flags, mode));
+    return meddle(path) ? -1 : noted(path, next(folder, path, flags, MODE_BEHIND(flags)));
 }
 
 int unlink(const char *path)
 {
-    static int (*real)(const char *);
+    NEXT(unlink);
 
-    if (!real)
-        real = dlsym(RTLD_NEXT, "unlink");
-    if (!is_named(path, "MEDDLE_KEPT") || !is_on())
-        return real(path);
-    errno = EIO;
-    return -1;
+    return is_named(path, "MEDDLE_KEPT") && is_on() ? refused(EIO) : next(path);
 }
 
 int unlinkat(int folder, const char *name, int flags)
 {
-    static int (*real)(int, const char *, int);
+    NEXT(unlinkat);
     char rest[PATH_MAX], room[PATH_MAX];
 
-    if (!real)
-        real = dlsym(RTLD_NEXT, "unlinkat");
     snprintf(rest, sizeof rest, "/%s", name);
-    if (!is_named(path_in(folder, rest, room), "MEDDLE_KEPT") || !is_on())
-        return real(folder, name, flags);
-    errno = EIO;
-    return -1;
+    return is_named(path_in(folder, rest, room), "MEDDLE_KEPT") && is_on() ? refused(EIO) : next(folder, name, flags);
 }
 
 ssize_t read(int file, void *octets, size_t count)
 {
-    static ssize_t (*real)(int, void *, size_t);
+    NEXT(read);
     ssize_t got;
 
-    if (!real)
-        real = dlsym(RTLD_NEXT, "read");
-    if (file == broken_file && is_on() && lseek(file, 0, SEEK_CUR) > 0) {
-        errno = EIO;
-        return -1;
-    }
-    got = real(file, octets, count);
+    if (file == broken_file && is_on() && lseek(file, 0, SEEK_CUR) > 0)
+        return refused(EIO);
+    got = next(file, octets, count);
     if (file == read_file && is_on() && got > 0)
         move();
     return got;
@@ -170,13 +123,10 @@ ssize_t read(int file, void *octets, size_t count)
 
 ssize_t getdents64(int folder, void *entries, size_t size)
 {
-    static ssize_t (*real)(int, void *, size_t);
+    NEXT(getdents64);
     static int missed = 0;
-    ssize_t got, at;
+    ssize_t got = next(folder, entries, size), at;
 
-    if (!real)
-        real = dlsym(RTLD_NEXT, "getdents64");
-    got = real(folder, entries, size);
     for (at = 0; at < got && !missed && is_on();) {
         struct dirent64 *entry = (struct dirent64 *)((char *)entries + at);
         ssize_t length = entry->d_reclen;

@@ -19,17 +19,12 @@
    A path that isn't absolute is taken from the working folder. After the fifth row, here, the program is killed;
    without CHANGES_KILLED it isn't. */
 
-#include "note.h"
+#include "preloaded.h"
 #include <dirent.h>
 #include <signal.h>
-#include <stdarg.h>
 #include <stdint.h>
 #include <sys/socket.h>
-#include <sys/types.h>
 #include <sys/uio.h>
-
-static long rows_until_kill = -1;
-static long rows_written = 0;
 
 static ssize_t write_rows(const struct iovec *pieces)
 {
@@ -39,12 +34,13 @@ static ssize_t write_rows(const struct iovec *pieces)
 
 __attribute__((constructor)) static void begin(void)
 {
-    rows_until_kill = open_note("CHANGES_NOTE", "CHANGES_KILLED");
+    open_note("CHANGES_NOTE");
 }
 
 /* Adds a row, which has no count of bytes yet, and kills the program if it was the last one. */
 static void add_row(const void *bytes, size_t size, const char *format, ...)
 {
+    static long rows = 0;
     char row[3 * PATH_MAX];
     int fault = errno, length;
     va_list more;
@@ -58,7 +54,7 @@ static void add_row(const void *bytes, size_t size, const char *format, ...)
     struct iovec pieces[2] = {{row, length}, {(void *)bytes, size}};
     if (write_rows(pieces) != (ssize_t)(length + size))
         abort();
-    if (++rows_written == rows_until_kill)
+    if (++rows == number_in("CHANGES_KILLED", -1))
         kill(getpid(), SIGKILL);
     errno = fault;
 }
@@ -97,15 +93,10 @@ static int opened(int descriptor, const char *path, int flags, off_t before)
 
 int open(const char *path, int flags, ...)
 {
-    off_t before = length_before(path);
-    va_list more;
-    mode_t mode;
     NEXT(open);
+    off_t before = length_before(path);
 
-    va_start(more, flags);
-    mode = va_arg(more, mode_t);
-    va_end(more);
-    return opened(next(path, flags, mode), path, flags, before);
+    return opened(next(path, flags, MODE_BEHIND(flags)), path, flags, before);
 }
 
 /* The name by which python3 has it. */
@@ -113,16 +104,11 @@ int open64(const char *path, int flags, ...) __attribute__((alias("open")));
 
 int openat(int folder, const char *path, int flags, ...)
 {
-    off_t before = length_before(path);
-    va_list more;
-    mode_t mode;
     NEXT(openat);
-
     /* The programs open no file by a folder; if one is made so, its tree isn't the one that the rows give. */
-    va_start(more, flags);
-    mode = va_arg(more, mode_t);
-    va_end(more);
-    return opened(next(folder, path, flags, mode), path, flags, folder == AT_FDCWD || path[0] == '/' ? before : 0);
+    off_t before = folder == AT_FDCWD || path[0] == '/' ? length_before(path) : 0;
+
+    return opened(next(folder, path, flags, MODE_BEHIND(flags)), path, flags, before);
 }
 
 /* Writes the row of a write, which began at `place` unless the file is only appended to. */

@@ -20,31 +20,13 @@
 
    The call for random octets of the number OTHER_RANDOM, counted from 1, answers -1 with ENOSYS. */
 
-#define _GNU_SOURCE
+#include "preloaded.h"
 #include <dirent.h>
-#include <dlfcn.h>
-#include <errno.h>
-#include <fcntl.h>
-#include <limits.h>
-#include <stdarg.h>
-#include <stdio.h>
-#include <stdlib.h>
-#include <string.h>
-#include <sys/stat.h>
-#include <sys/types.h>
-#include <unistd.h>
-
-static int is_named(const char *path, const char *variable)
-{
-    const char *name = getenv(variable);
-
-    return name && strcmp(path, name) == 0;
-}
 
 int statx(int folder, const char *path, int flags, unsigned int mask, struct statx *found)
 {
+    NEXT(statx);
     static int moved = 0;
-    int (*next)(int, const char *, int, unsigned int, struct statx *) = dlsym(RTLD_NEXT, "statx");
     const char *to = getenv("OTHER_TO");
 
     if (!moved && is_named(path, "OTHER_FROM")) {
@@ -60,34 +42,24 @@ static void change_briefly(int folder)
 {
     const char *path = getenv("OTHER_BRIEF");
     struct stat before;
-    struct timespec times[2];
-    int file;
 
     if (!path)
         return;
     if (fstat(folder, &before))
         abort();
-    file = open(path, O_WRONLY | O_CREAT | O_EXCL, 0600);
-    if (file < 0 || close(file) || unlink(path))
-        abort();
-    times[0] = before.st_atim;
-    times[1] = before.st_mtim;
-    if (futimens(folder, times))
+    make_briefly(path);
+    if (futimens(folder, (struct timespec[]){before.st_atim, before.st_mtim}))
         abort();
 }
 
 ssize_t getdents64(int folder, void *names, size_t size)
 {
-    static ssize_t (*next)(int, void *, size_t);
+    NEXT(getdents64);
     static int calls = 0;
     ssize_t answer;
 
-    if (!next)
-        next = dlsym(RTLD_NEXT, "getdents64");
-    if (is_named("listing", "OTHER_BROKEN") && ++calls > 1) {
-        errno = EIO;
-        return -1;
-    }
+    if (is_named("listing", "OTHER_BROKEN") && ++calls > 1)
+        return refused(EIO);
     answer = next(folder, names, size);
     change_briefly(folder);
     return answer;
@@ -95,44 +67,25 @@ ssize_t getdents64(int folder, void *names, size_t size)
 
 int open(const char *path, int flags, ...)
 {
-    int (*next)(const char *, int, ...) = dlsym(RTLD_NEXT, "open");
-    va_list more;
-    mode_t mode;
+    NEXT(open);
 
-    va_start(more, flags);
-    mode = va_arg(more, mode_t);
-    va_end(more);
     if (flags & O_APPEND && is_named(path, "OTHER_GONE") && unlink(path) && errno != ENOENT)
         abort();
-    return next(path, flags, mode);
-}
-
-/* The path of an open file. */
-static const char *path_of(int file)
-{
-    static char path[PATH_MAX];
-    char link[64];
-    ssize_t end;
-
-    snprintf(link, sizeof link, "/proc/self/fd/%d", file);
-    end = readlink(link, path, sizeof path - 1);
-    path[end < 0 ? 0 : end] = 0;
-    return path;
+    return next(path, flags, MODE_BEHIND(flags));
 }
 
 ssize_t write(int file, const void *octets, size_t count)
 {
+    NEXT(write);
     static int full = 0;
-    ssize_t (*next)(int, const void *, size_t) = dlsym(RTLD_NEXT, "write");
-    const char *mail = getenv("OTHER_MAIL"), *path = path_of(file);
+    const char *mail = getenv("OTHER_MAIL");
+    char path[PATH_MAX];
     int other;
 
-    if (!is_named(path, "OTHER_FULL"))
+    if (!is_named(path_of(file, path), "OTHER_FULL"))
         return next(file, octets, count);
-    if (full) {
-        errno = ENOSPC;
-        return -1;
-    }
+    if (full)
+        return refused(ENOSPC);
     full = 1;
     other = mail ? open(path, O_WRONLY | O_APPEND) : -1;
     if (mail && (other < 0 || next(other, mail, strlen(mail)) < 0 || close(other)))
@@ -142,28 +95,22 @@ ssize_t write(int file, const void *octets, size_t count)
 
 int fsync(int file)
 {
-    int (*next)(int) = dlsym(RTLD_NEXT, "fsync");
-    const char *length = getenv("OTHER_LENGTH"), *path = path_of(file);
+    NEXT(fsync);
+    char path[PATH_MAX];
     struct stat found;
 
-    if (length && is_named(path, "OTHER_SHRUNK") && !fstat(file, &found) && found.st_size > atol(length)) {
-        if (truncate(path, 0))
-            abort();
-        errno = EIO;
-        return -1;
-    }
-    return next(file);
+    if (!is_named(path_of(file, path), "OTHER_SHRUNK") || fstat(file, &found)
+        || found.st_size <= number_in("OTHER_LENGTH", LONG_MAX))
+        return next(file);
+    if (truncate(path, 0))
+        abort();
+    return refused(EIO);
 }
 
 int getentropy(void *buffer, size_t length)
 {
+    NEXT(getentropy);
     static long calls = 0;
-    int (*next)(void *, size_t) = dlsym(RTLD_NEXT, "getentropy");
-    const char *refused = getenv("OTHER_RANDOM");
 
-    if (refused && ++calls == atol(refused)) {
-        errno = ENOSYS;
-        return -1;
-    }
-    return next(buffer, length);
+    return ++calls == number_in("OTHER_RANDOM", 0) ? refused(ENOSYS) : next(buffer, length);
 }

@@ -8,21 +8,13 @@
    READER_BACK each file of `cur` is put back into `new` instead, with its flags, as mutt does. The file `note` is made
    at that moment, so that the caller can tell a run with fewer calls. With READER_CALL=0 this is done before each call.
 
-       READER_MAILDIR=Maildir READER_CALL=-1 READER_OPEN=2 READER_OPENS=5 READER_NOTE=note LD_PRELOAD=./reader.so PROGRAM ..
+       READER_MAILDIR=Maildir READER_OPEN=2 READER_OPENS=5 READER_NOTE=note LD_PRELOAD=./reader.so PROGRAM ..
 
    Just before the second open, here, of a file of `new` or `cur`, and before the four after it, that file alone is moved
    to `cur` with other flags; with READER_AWAY it is removed. */
 
-#include "next.h"
+#include "preloaded.h"
 #include <dirent.h>
-#include <fcntl.h>
-#include <limits.h>
-#include <stdarg.h>
-#include <stdio.h>
-#include <stdlib.h>
-#include <string.h>
-#include <sys/types.h>
-#include <unistd.h>
 
 enum { MOST_FILES = 10000 };
 
@@ -75,19 +67,11 @@ static void move_all(const char *maildir, const char *part, const char *target)
     }
 }
 
-static void make_note(void)
-{
-    int descriptor = open(getenv("READER_NOTE"), O_WRONLY | O_CREAT, 0600);
-
-    if (descriptor >= 0)
-        close(descriptor);
-}
-
 static void read_mail(void)
 {
     const char *maildir = getenv("READER_MAILDIR");
 
-    make_note();
+    make_file(getenv("READER_NOTE"), 0);
     if (getenv("READER_BACK")) {
         move_all(maildir, "cur", "new");
         return;
@@ -100,18 +84,19 @@ static void read_mail(void)
 static void before_open(const char *path)
 {
     static long opens = 0;
-    const char *maildir = getenv("READER_MAILDIR"), *first = getenv("READER_OPEN"), *number = getenv("READER_OPENS");
+    const char *maildir = getenv("READER_MAILDIR");
+    long first = number_in("READER_OPEN", 0);
     const char *rest = path + strlen(maildir);
     char to[2 * PATH_MAX], other[PATH_MAX];
 
-    if (!first || strncmp(path, maildir, strlen(maildir)) != 0)
+    if (first == 0 || strncmp(path, maildir, strlen(maildir)) != 0)
         return;
     if ((strncmp(rest, "/new/", 5) != 0 && strncmp(rest, "/cur/", 5) != 0) || !rest[5])
         return;
     opens++;
-    if (opens < atol(first) || opens >= atol(first) + (number ? atol(number) : 1))
+    if (opens < first || opens >= first + number_in("READER_OPENS", 1))
         return;
-    make_note();
+    make_file(getenv("READER_NOTE"), 0);
     flag(rest + 5, other);
     snprintf(to, sizeof to, "%s/cur/%s", maildir, other);
     if (getenv("READER_AWAY") ? unlink(path) : rename(path, to))
@@ -120,22 +105,17 @@ static void before_open(const char *path)
 
 int open(const char *path, int flags, ...)
 {
-    va_list more;
-    mode_t mode;
     NEXT(open);
 
-    va_start(more, flags);
-    mode = va_arg(more, mode_t);
-    va_end(more);
     before_open(path);
-    return next(path, flags, mode);
+    return next(path, flags, MODE_BEHIND(flags));
 }
 
 ssize_t getdents64(int folder, void *entries, size_t size)
 {
-    static long calls = 0;
-    long wanted = atol(getenv("READER_CALL"));
     NEXT(getdents64);
+    static long calls = 0;
+    long wanted = number_in("READER_CALL", -1);
 
     if (++calls == wanted || wanted == 0)
         read_mail();

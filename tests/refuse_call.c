@@ -10,23 +10,15 @@
    a file system that has none; `lock-none-left` and `lock-unsupported`, the lock of a file. With REFUSED_WHEN none
    is refused before the file of that path is there. */
 
-#define _GNU_SOURCE
-#include <dlfcn.h>
-#include <errno.h>
-#include <stdio.h>
-#include <stdlib.h>
-#include <string.h>
+#include "preloaded.h"
 #include <sys/file.h>
 #include <sys/socket.h>
-#include <sys/stat.h>
-#include <unistd.h>
 
 static int refuses(const char *kind)
 {
-    const char *refused = getenv("REFUSED_CALL");
     const char *when = getenv("REFUSED_WHEN");
 
-    return refused && !strcmp(refused, kind) && (!when || access(when, F_OK) == 0);
+    return is_named(kind, "REFUSED_CALL") && (!when || access(when, F_OK) == 0);
 }
 
 static int is_in_new(const char *path)
@@ -38,80 +30,60 @@ static int is_in_new(const char *path)
 
 int setsockopt(int socket, int level, int name, const void *value, socklen_t size)
 {
-    int (*next)(int, int, int, const void *, socklen_t) = dlsym(RTLD_NEXT, "setsockopt");
+    NEXT(setsockopt);
 
     if (level == SOL_SOCKET && ((name == SO_RCVTIMEO && refuses("read-timeout"))
-                                || (name == SO_SNDTIMEO && refuses("write-timeout")))) {
-        errno = ENOPROTOOPT;
-        return -1;
-    }
+                                || (name == SO_SNDTIMEO && refuses("write-timeout"))))
+        return refused(ENOPROTOOPT);
     return next(socket, level, name, value, size);
 }
 
 int flock(int file, int how)
 {
-    int (*next)(int, int) = dlsym(RTLD_NEXT, "flock");
+    NEXT(flock);
 
-    if (refuses("lock-none-left") || refuses("lock-unsupported")) {
-        errno = refuses("lock-none-left") ? ENOLCK : EOPNOTSUPP;
-        return -1;
-    }
+    if (refuses("lock-none-left") || refuses("lock-unsupported"))
+        return refused(refuses("lock-none-left") ? ENOLCK : EOPNOTSUPP);
     return next(file, how);
 }
 
 int getentropy(void *buffer, size_t length)
 {
-    int (*next)(void *, size_t) = dlsym(RTLD_NEXT, "getentropy");
+    NEXT(getentropy);
 
-    if (refuses("random")) {
-        errno = ENOSYS;
-        return -1;
-    }
-    return next(buffer, length);
+    return refuses("random") ? refused(ENOSYS) : next(buffer, length);
 }
 
 int fsync(int descriptor)
 {
-    int (*next)(int) = dlsym(RTLD_NEXT, "fsync");
+    NEXT(fsync);
     struct stat found;
 
-    if (refuses("folder-flush") && !fstat(descriptor, &found) && S_ISDIR(found.st_mode)) {
-        errno = EINVAL;
-        return -1;
-    }
+    if (refuses("folder-flush") && !fstat(descriptor, &found) && S_ISDIR(found.st_mode))
+        return refused(EINVAL);
     return next(descriptor);
 }
 
 int renameat2(int from_folder, const char *from, int to_folder, const char *to, unsigned flags)
 {
-    int (*next)(int, const char *, int, const char *, unsigned) = dlsym(RTLD_NEXT, "renameat2");
+    NEXT(renameat2);
 
-    if (flags && refuses("sparing-rename")) {
-        errno = EINVAL;
-        return -1;
-    }
-    return next(from_folder, from, to_folder, to, flags);
+    return flags && refuses("sparing-rename") ? refused(EINVAL) : next(from_folder, from, to_folder, to, flags);
 }
 
 int link(const char *from, const char *to)
 {
-    int (*next)(const char *, const char *) = dlsym(RTLD_NEXT, "link");
+    NEXT(link);
 
-    if (refuses("look")) {
-        errno = EPERM;
-        return -1;
-    }
-    return next(from, to);
+    return refuses("look") ? refused(EPERM) : next(from, to);
 }
 
 int statx(int folder, const char *path, int flags, unsigned int mask, struct statx *found)
 {
-    int (*next)(int, const char *, int, unsigned int, struct statx *) = dlsym(RTLD_NEXT, "statx");
+    NEXT(statx);
 
     if ((refuses("look") && is_in_new(path)) || (refuses("record") && strstr(path, "/seen-"))
-        || (refuses("told") && strstr(path, "/told-"))) {
-        errno = refuses("told") ? ENOMEM : EIO;
-        return -1;
-    }
+        || (refuses("told") && strstr(path, "/told-")))
+        return refused(refuses("told") ? ENOMEM : EIO);
     return next(folder, path, flags, mask, found);
 }

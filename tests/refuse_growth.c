@@ -4,56 +4,57 @@
        REFUSED_GROWTH=3 REFUSED_NOTE=note LD_PRELOAD=./refuse_growth.so PROGRAM ..
 
    The third call of malloc or realloc answers NULL with ENOMEM, and the file `note` is made at that moment, so that
-   the caller can tell a run in which nothing was refused. Every other call passes. */
+   the caller can tell a run in which nothing was refused. Every other call passes.
 
-#define _GNU_SOURCE
-#include <dlfcn.h>
-#include <errno.h>
-#include <fcntl.h>
-#include <stdlib.h>
-#include <unistd.h>
+   With REFUSED_WITHIN=1 only the growths within the call that a program marks are counted: it writes the line `called` to
+   standard output when its first call begins, and `answered` when that has answered. Then the line `growths N` goes to
+   standard error, N their number. */
 
-static long refused_growth = -1;
-static long growths_seen = 0;
-static const char *note;
+#include "preloaded.h"
 
-__attribute__((constructor)) static void read_environment(void)
+static enum { BEFORE, WITHIN, AFTER } place = BEFORE;
+static long growths = 0;
+
+ssize_t write(int descriptor, const void *bytes, size_t size)
 {
-    const char *number = getenv("REFUSED_GROWTH");
+    NEXT(write);
+    char told[64];
 
-    note = getenv("REFUSED_NOTE");
-    refused_growth = number ? atol(number) : -1;
+    if (descriptor != STDOUT_FILENO)
+        return next(descriptor, bytes, size);
+    if (place == BEFORE && size >= 6 && !memcmp(bytes, "called", 6))
+        place = WITHIN;
+    if (place == WITHIN && size >= 8 && !memcmp(bytes, "answered", 8)) {
+        place = AFTER;
+        if (next(STDERR_FILENO, told, snprintf(told, sizeof told, "growths %ld\n", growths)) < 0)
+            abort();
+    }
+    return next(descriptor, bytes, size);
 }
 
 /* Counts one growth, and answers whether it is the one to refuse. */
 static int is_refused(void)
 {
-    if (++growths_seen != refused_growth)
-        return 0;
-    if (note) {
-        int descriptor = open(note, O_WRONLY | O_CREAT, 0600);
+    const char *path = getenv("REFUSED_NOTE");
 
-        if (descriptor >= 0)
-            close(descriptor);
-    }
+    if ((getenv("REFUSED_WITHIN") && place != WITHIN) || ++growths != number_in("REFUSED_GROWTH", -1))
+        return 0;
+    if (path)
+        make_file(path, 0);
     errno = ENOMEM;
     return 1;
 }
 
 void *malloc(size_t size)
 {
-    static void *(*next)(size_t);
+    NEXT(malloc);
 
-    if (!next)
-        next = dlsym(RTLD_NEXT, "malloc");
     return is_refused() ? NULL : next(size);
 }
 
 void *realloc(void *block, size_t size)
 {
-    static void *(*next)(void *, size_t);
+    NEXT(realloc);
 
-    if (!next)
-        next = dlsym(RTLD_NEXT, "realloc");
     return is_refused() ? NULL : next(block, size);
 }

@@ -10,18 +10,14 @@
    the first half of the bytes for a write or a send and nothing for any other step, or `zero`: a write is answered 0.
    With STEP_LATER set all later steps are refused too, with no effect. Without STEP_REFUSED none is refused. */
 
-#include "note.h"
-#include "way.h"
-#include <stdarg.h>
+#include "preloaded.h"
 #include <sys/socket.h>
 
-static long refused_step = -1;
-static long steps_seen = 0;
 static const char *below;
 
 __attribute__((constructor)) static void begin(void)
 {
-    refused_step = open_note("STEP_NOTE", "STEP_REFUSED");
+    open_note("STEP_NOTE");
     below = getenv("STEP_BELOW");
 }
 
@@ -39,36 +35,20 @@ static int is_of_file(int descriptor)
 
 enum effect { DONE, NONE, HALF, WHOLE };
 
-static int answers_zero(void)
-{
-    const char *effect = getenv("STEP_EFFECT");
-
-    return effect && !strcmp(effect, "zero");
-}
-
 /* Counts a step, and answers what is done with it. */
 static enum effect taken(const char *word, const char *what)
 {
-    NEXT(write);
-    const char *effect = getenv("STEP_EFFECT");
-    char line[2 * PATH_MAX];
-    int is_first = ++steps_seen == refused_step;
-    int is_refused = is_first || (refused_step > 0 && steps_seen > refused_step && getenv("STEP_LATER"));
-    int length = snprintf(line, sizeof line, "%s%s\t%s\n", is_refused ? "refused " : "", word, what);
+    static long steps = 0;
+    long refused_step = number_in("STEP_REFUSED", LONG_MAX);
+    int is_first = ++steps == refused_step;
+    int is_refused = is_first || (steps > refused_step && getenv("STEP_LATER"));
 
-    if (note >= 0 && next(note, line, length) != length)
-        abort();
+    write_down("%s%s\t%s\n", is_refused ? "refused " : "", word, what);
     if (!is_refused)
         return DONE;
-    if (!is_first || !effect || !strcmp(effect, "none") || answers_zero())
-        return NONE;
-    return !strcmp(effect, "half") ? HALF : WHOLE;
-}
-
-static int refused(void)
-{
-    errno = EIO;
-    return -1;
+    if (is_first && is_named("half", "STEP_EFFECT"))
+        return HALF;
+    return is_first && is_named("whole", "STEP_EFFECT") ? WHOLE : NONE;
 }
 
 static enum effect taken_of(const char *word, int descriptor)
@@ -88,36 +68,25 @@ static enum effect taken_at(const char *word, const char *given)
 
 int open(const char *path, int flags, ...)
 {
-    enum effect effect = taken_at("open", path);
-    va_list more;
-    mode_t mode;
-    int answer;
     NEXT(open);
+    enum effect effect = taken_at("open", path);
+    int answer;
 
-    va_start(more, flags);
-    mode = va_arg(more, mode_t);
-    va_end(more);
     if (effect == NONE || effect == HALF)
-        return refused();
-    answer = next(path, flags, mode);
+        return refused(EIO);
+    answer = next(path, flags, MODE_BEHIND(flags));
     if (effect == DONE)
         return answer;
     if (answer >= 0)
         close(answer);
-    return refused();
+    return refused(EIO);
 }
 
 int openat(int folder, const char *path, int flags, ...)
 {
-    enum effect effect = taken_at("openat", path);
-    va_list more;
-    mode_t mode;
     NEXT(openat);
 
-    va_start(more, flags);
-    mode = va_arg(more, mode_t);
-    va_end(more);
-    return effect == DONE ? next(folder, path, flags, mode) : refused();
+    return taken_at("openat", path) == DONE ? next(folder, path, flags, MODE_BEHIND(flags)) : refused(EIO);
 }
 
 int statx(int folder, const char *path, int flags, unsigned int mask, struct statx *found)
@@ -126,19 +95,19 @@ int statx(int folder, const char *path, int flags, unsigned int mask, struct sta
     const char *word = flags & AT_SYMLINK_NOFOLLOW ? "lstat" : "stat";
     enum effect effect = *path ? taken_at(word, path) : taken_of("fstat", folder);
 
-    return effect == DONE ? next(folder, path, flags, mask, found) : refused();
+    return effect == DONE ? next(folder, path, flags, mask, found) : refused(EIO);
 }
 
 off_t lseek(int descriptor, off_t place, int from)
 {
     NEXT(lseek);
-    return taken_of("lseek", descriptor) == DONE ? next(descriptor, place, from) : refused();
+    return taken_of("lseek", descriptor) == DONE ? next(descriptor, place, from) : refused(EIO);
 }
 
 ssize_t read(int descriptor, void *bytes, size_t size)
 {
     NEXT(read);
-    return taken_of("read", descriptor) == DONE ? next(descriptor, bytes, size) : refused();
+    return taken_of("read", descriptor) == DONE ? next(descriptor, bytes, size) : refused(EIO);
 }
 
 ssize_t write(int descriptor, const void *bytes, size_t size)
@@ -148,11 +117,11 @@ ssize_t write(int descriptor, const void *bytes, size_t size)
 
     if (effect == DONE)
         return next(descriptor, bytes, size);
-    if (answers_zero())
+    if (is_named("zero", "STEP_EFFECT"))
         return 0;
     if (effect != NONE)
         (void)!next(descriptor, bytes, effect == HALF ? size / 2 : size);
-    return refused();
+    return refused(EIO);
 }
 
 int fsync(int descriptor)
@@ -164,7 +133,7 @@ int fsync(int descriptor)
         return next(descriptor);
     if (effect == WHOLE)
         next(descriptor);
-    return refused();
+    return refused(EIO);
 }
 
 int ftruncate(int descriptor, off_t size)
@@ -176,7 +145,7 @@ int ftruncate(int descriptor, off_t size)
         return next(descriptor, size);
     if (effect == WHOLE)
         (void)!next(descriptor, size);
-    return refused();
+    return refused(EIO);
 }
 
 /* Gives a file another name by this call of the system. */
@@ -188,7 +157,7 @@ static int named(const char *word, int (*next)(const char *, const char *), cons
         return next(from, to);
     if (effect == WHOLE)
         next(from, to);
-    return refused();
+    return refused(EIO);
 }
 
 int rename(const char *from, const char *to)
@@ -212,7 +181,7 @@ int unlink(const char *path)
         return next(path);
     if (effect == WHOLE)
         next(path);
-    return refused();
+    return refused(EIO);
 }
 
 int unlinkat(int folder, const char *name, int flags)
@@ -227,13 +196,13 @@ int unlinkat(int folder, const char *name, int flags)
         return next(folder, name, flags);
     if (effect == WHOLE)
         next(folder, name, flags);
-    return refused();
+    return refused(EIO);
 }
 
 int connect(int socket, const struct sockaddr *address, socklen_t size)
 {
     NEXT(connect);
-    return taken("connect", "the link") == DONE ? next(socket, address, size) : refused();
+    return taken("connect", "the link") == DONE ? next(socket, address, size) : refused(EIO);
 }
 
 ssize_t send(int socket, const void *bytes, size_t size, int flags)
@@ -245,7 +214,7 @@ ssize_t send(int socket, const void *bytes, size_t size, int flags)
         return next(socket, bytes, size, flags);
     if (effect != NONE)
         next(socket, bytes, effect == HALF ? size / 2 : size, flags);
-    return refused();
+    return refused(EIO);
 }
 
 ssize_t recv(int socket, void *bytes, size_t size, int flags)
@@ -257,5 +226,5 @@ ssize_t recv(int socket, void *bytes, size_t size, int flags)
         return next(socket, bytes, size, flags);
     if (effect == WHOLE)
         next(socket, bytes, size, flags);
-    return refused();
+    return refused(EIO);
 }

@@ -6,30 +6,17 @@
    At each of the first three calls, here, that read names of a folder, whichever it is, the file of RESTLESS_FILE is
    made and removed again. Without RESTLESS_TIMES it is at each call. */
 
-#define _GNU_SOURCE
+#include "preloaded.h"
 #include <dirent.h>
-#include <dlfcn.h>
-#include <fcntl.h>
-#include <stdlib.h>
-#include <sys/types.h>
-#include <unistd.h>
 
 ssize_t getdents64(int descriptor, void *names, size_t size)
 {
-    static ssize_t (*next_getdents64)(int, void *, size_t);
+    NEXT(getdents64);
     static long calls_seen = 0;
     const char *path = getenv("RESTLESS_FILE");
-    const char *times = getenv("RESTLESS_TIMES");
-    ssize_t answer;
-    int file;
+    ssize_t answer = next(descriptor, names, size);
 
-    if (!next_getdents64)
-        next_getdents64 = dlsym(RTLD_NEXT, "getdents64");
-    answer = next_getdents64(descriptor, names, size);
-    if (path && (!times || calls_seen++ < atol(times))) {
-        file = open(path, O_WRONLY | O_CREAT | O_EXCL, 0600);
-        if (file < 0 || close(file) || unlink(path))
-            abort();
-    }
+    if (path && calls_seen++ < number_in("RESTLESS_TIMES", LONG_MAX))
+        make_briefly(path);
     return answer;
 }

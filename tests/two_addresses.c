@@ -3,13 +3,12 @@
        cc -O1 -shared -fPIC -o two_addresses.so two_addresses.c -ldl
        LD_PRELOAD=./two_addresses.so PROGRAM .. */
 
-#define _GNU_SOURCE
-#include <dlfcn.h>
+#include "preloaded.h"
 #include <netdb.h>
 
 int getaddrinfo(const char *host, const char *service, const struct addrinfo *hints, struct addrinfo **found)
 {
-    int (*next)(const char *, const char *, const struct addrinfo *, struct addrinfo **) = dlsym(RTLD_NEXT, "getaddrinfo");
+    NEXT(getaddrinfo);
     struct addrinfo *last;
     int fault;
 

@@ -9,52 +9,41 @@
    second, here, answers -1 with EIO and does nothing; without WATCH_REFUSED none is refused. With WATCH_NO_LINKS each
    call of link fails, and isn't counted, as on a file system that has no second names. */
 
-#include "note.h"
-
-static long refused_call = -1;
-static long calls_seen = 0;
+#include "preloaded.h"
 
 __attribute__((constructor)) static void begin(void)
 {
-    refused_call = open_note("WATCH_NOTE", "WATCH_REFUSED");
-}
-
-static void write_down(const char *word, const char *outcome, const char *first, const char *second)
-{
-    NEXT(write);
-    char line[3 * PATH_MAX];
-    int length = snprintf(line, sizeof line, "%s\t%s\t%s\t%s\n", word, outcome, first, second);
-
-    if (note >= 0 && next(note, line, length) != length)
-        abort();
+    open_note("WATCH_NOTE");
 }
 
 /* Counts a call of fsync, link or rename, and answers whether it is the one to refuse. */
 static int is_refused(void)
 {
-    if (++calls_seen != refused_call)
-        return 0;
-    errno = EIO;
-    return 1;
+    static long calls = 0;
+
+    return ++calls == number_in("WATCH_REFUSED", -1);
 }
 
-static const char *outcome_of(int answer)
+/* Adds the line of a call that has answered so. */
+static int answered(const char *word, int is_refused, int answer, const char *first, const char *second)
 {
-    return answer == 0 ? "done" : "failed";
+    const char *outcome = is_refused ? "refused" : answer == 0 ? "done" : "failed";
+
+    write_down("%s\t%s\t%s\t%s\n", word, outcome, first, second);
+    return answer;
 }
 
 ssize_t write(int descriptor, const void *bytes, size_t size)
 {
     NEXT(write);
     struct stat about;
-    char path[PATH_MAX], count[32];
+    char path[PATH_MAX];
     ssize_t written;
 
     if (fstat(descriptor, &about) != 0 || !S_ISREG(about.st_mode))
         return next(descriptor, bytes, size);
     written = next(descriptor, bytes, size > 1 ? size / 2 : size);
-    snprintf(count, sizeof count, "%zd", written);
-    write_down("write", count, path_of(descriptor, path), "");
+    write_down("write\t%zd\t%s\t\n", written, path_of(descriptor, path));
     return written;
 }
 
@@ -62,25 +51,18 @@ int fsync(int descriptor)
 {
     NEXT(fsync);
     char path[PATH_MAX];
-    int refused = is_refused();
-    int answer = refused ? -1 : next(descriptor);
-    int fault = errno;
+    int is_one = is_refused();
+    int answer = is_one ? refused(EIO) : next(descriptor);
 
-    write_down("fsync", refused ? "refused" : outcome_of(answer), path_of(descriptor, path), "");
-    errno = fault;
-    return answer;
+    return answered("fsync", is_one, answer, path_of(descriptor, path), "");
 }
 
 /* Gives a file another name by this call of the system. */
 static int named(const char *word, int (*next)(const char *, const char *), const char *from, const char *to)
 {
-    int refused = is_refused();
-    int answer = refused ? -1 : next(from, to);
-    int fault = errno;
+    int is_one = is_refused();
 
-    write_down(word, refused ? "refused" : outcome_of(answer), from, to);
-    errno = fault;
-    return answer;
+    return answered(word, is_one, is_one ? refused(EIO) : next(from, to), from, to);
 }
 
 int rename(const char *from, const char *to)
@@ -95,18 +77,12 @@ int link(const char *from, const char *to)
 
     if (!getenv("WATCH_NO_LINKS"))
         return named("link", next, from, to);
-    write_down("link", "failed", from, to);
-    errno = EPERM;
-    return -1;
+    return answered("link", 0, refused(EPERM), from, to);
 }
 
 int unlink(const char *path)
 {
     NEXT(unlink);
-    int answer = next(path);
-    int fault = errno;
 
-    write_down("unlink", outcome_of(answer), path, "");
-    errno = fault;
-    return answer;
+    return answered("unlink", 0, next(path), path, "");
 }

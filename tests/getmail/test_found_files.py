@@ -103,7 +103,7 @@ class FoundFiles(unittest.TestCase):
     def test_one_that_a_reader_moves_just_before_it_is_opened(self):
         """Also if the message's other file was flushed already, or is flushed next."""
         def moved_at(opening):
-            return {"READER_CALL": "-1", "READER_OPEN": str(opening)}
+            return {"READER_OPEN": str(opening)}
 
         self.check_each(3, [("new", "")], moved_at)
         self.check_each(6, BOTH, moved_at, copies=2)
@@ -112,7 +112,7 @@ class FoundFiles(unittest.TestCase):
         """Each of the three, twenty times."""
         inodes = self.put(("new", ""))
         with preload.library("reader") as reader:
-            rows = self.changes_of_run(reader, READER_MAILDIR=str(self.account.maildir), READER_CALL="-1", READER_OPEN="1",
+            rows = self.changes_of_run(reader, READER_MAILDIR=str(self.account.maildir), READER_OPEN="1",
                                        READER_OPENS="60", READER_NOTE=str(self.account.home / "told"))
         self.check_flushed_first(rows, inodes)
 

@@ -1,7 +1,7 @@
 """Memory that runs out in the libraries: each call that may answer so, with each of its growths refused in turn.
 
 The tests of `no_memory_tests` in `crates/tests` mark where their call begins and ends, and print what it answered and
-what is left; `tests/refuse_in_call.c` refuses one growth in between; `rows.py` says what may be printed.
+what is left; `tests/refuse_growth.c` refuses one growth in between; `rows.py` says what may be printed.
 """
 
 import os
@@ -32,13 +32,13 @@ def parts_of(told):
 class Growths(unittest.TestCase):
     @classmethod
     def setUpClass(cls):
-        cls.library = cls.enterClassContext(preload.library("refuse_in_call"))
+        cls.library = cls.enterClassContext(preload.library("refuse_growth"))
         cls.pool = cls.enterClassContext(ThreadPoolExecutor(os.cpu_count()))
 
     def run_test(self, name, growth):
         """The fault that the call answered, or None for its row's answer; and how many growths it had till then."""
         with tempfile.TemporaryDirectory() as folder:
-            changes = {"LD_PRELOAD": str(self.library), "REFUSED_GROWTH": str(growth)}
+            changes = {"LD_PRELOAD": str(self.library), "REFUSED_WITHIN": "1", "REFUSED_GROWTH": str(growth)}
             done = subprocess.run([programs.path_of("libraries"), MODULE + name], cwd=folder, capture_output=True,
                                   env=programs.environment(**changes), timeout=programs.SECONDS)
         told = done.stdout.decode()
