@@ -7,9 +7,8 @@ marked messages at QUIT, as RFC 1939 has it.
 import itertools
 import socket
 import threading
-import time
 
-from harness import programs
+from harness import kernel, programs
 from harness.kernel import LOOPBACK
 
 
@@ -31,8 +30,8 @@ def size_of(text):
 class Server:
     """The messages, as pairs of a unique-id and a text whose lines end in LF, and one session after the other.
 
-    With `pause` each octet comes alone, that many seconds after the one before. With `deaf_after` it reads that many
-    commands, and nothing more while the connection is open; `deaf` is set once the last of them is answered.
+    With `pause` each octet comes alone, once a call of that is over. With `deaf_after` it reads that many commands, and
+    nothing more while the connection is open; `deaf` is set once the client has the answer to the last of them.
     """
 
     def __init__(self, messages, refuses=()):
@@ -45,6 +44,7 @@ class Server:
         self.deaf_after = None
         self.deaf = threading.Event()
         self.hung_up = threading.Event()
+        self.thread = None
         self.socket = socket.create_server((LOOPBACK, 0))
         self.socket.settimeout(programs.SECONDS)
         self.port = self.socket.getsockname()[1]
@@ -53,6 +53,15 @@ class Server:
         return self
 
     def __exit__(self, *_):
+        self.close()
+
+    def close(self):
+        """Takes no further client. A thread that waits for one has to end before the socket's number is free again."""
+        self.hung_up.set()
+        if self.socket.fileno() >= 0:
+            self.socket.shutdown(socket.SHUT_RDWR)
+        if self.thread:
+            self.thread.join(programs.SECONDS)
         self.socket.close()
 
     def begin_session(self, octets=None):
@@ -61,14 +70,14 @@ class Server:
         self.room = octets
         self.deaf.clear()
         self.hung_up.clear()
-        thread = threading.Thread(target=self._serve, daemon=True)
-        thread.start()
-        return thread
+        self.thread = threading.Thread(target=self._serve, daemon=True)
+        self.thread.start()
+        return self.thread
 
     def _say(self, octets):
         if self.pause is not None:
             for octet in octets:
-                time.sleep(self.pause)
+                self.pause()
                 self.client.sendall(bytes([octet]))
             return
         if self.room is not None and self.room <= len(octets):
@@ -79,7 +88,11 @@ class Server:
             self.room -= len(octets)
 
     def _serve(self):
-        self.client, _ = self.socket.accept()
+        try:
+            self.client, _ = self.socket.accept()
+        except OSError:
+            # No client came, and the test is over.
+            return
         self.client.settimeout(programs.SECONDS)
         if self.socket.family == socket.AF_INET:
             self.client.setsockopt(socket.IPPROTO_TCP, socket.TCP_NODELAY, 1)
@@ -97,9 +110,10 @@ class Server:
                     if command == b"QUIT":
                         return
                 if self.deaf_after is not None:
+                    kernel.wait_until_taken(self.client)
                     self.deaf.set()
                     self.hung_up.wait(programs.SECONDS)
-            except (Cut, ConnectionError):
+            except (Cut, OSError):
                 # What the client still sends is read, so that the end comes in order and isn't a reset.
                 try:
                     self.client.shutdown(socket.SHUT_WR)

@@ -25,7 +25,7 @@ class Closed(unittest.TestCase):
 
     def setUp(self):
         self.server = Server(MESSAGES)
-        self.addCleanup(self.server.socket.close)
+        self.addCleanup(self.server.close)
 
     def stored(self):
         """The texts of the messages that are stored, in order."""

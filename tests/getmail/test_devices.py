@@ -16,9 +16,9 @@ EACH_FETCHED_AND_DELETED = ["RETR 1", "DELE 1", "RETR 2", "DELE 2", "RETR 3", "D
 class Devices(OneAccount):
     def meddle(self, meanwhile):
         """Lets the server do this with each command before it answers."""
-        self.server.socket.close()
+        self.server.close()
         self.server = MeddlingServer(THREE, meanwhile)
-        self.addCleanup(self.server.socket.close)
+        self.addCleanup(self.server.close)
         self.account.holder.cleanup()
         self.account = Account(self.server.port)
         self.addCleanup(self.account.holder.cleanup)

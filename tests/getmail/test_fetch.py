@@ -28,7 +28,7 @@ REPORT = ("SimplePOP3Retriever:u@{server}:{port}:\n"
 class Fetching(unittest.TestCase):
     def setUp(self):
         self.server = Server(THREE)
-        self.addCleanup(self.server.socket.close)
+        self.addCleanup(self.server.close)
         self.account = Account(self.server.port)
         self.addCleanup(self.account.holder.cleanup)
 
@@ -282,7 +282,7 @@ class Addresses(Fetching):
         self.check_held(THREE)
 
     def test_none_takes_a_connection(self):
-        self.server.socket.close()
+        self.server.close()
         line = f"getmail: cannot connect to {self.name}:{self.server.port}\n".encode()
         self.assertEqual(self.run_by_name(self.server.port), programs.Run(1, b"", line))
 

@@ -15,7 +15,7 @@ CUT = programs.Run(1, b"", b"getmail: server refused RETR 2\n")
 class GreatRecords(unittest.TestCase):
     def setUp(self):
         self.server = Server([FIRST])
-        self.addCleanup(self.server.socket.close)
+        self.addCleanup(self.server.close)
         self.account = Account(self.server.port, "max_messages_per_session = 2\n")
         self.addCleanup(self.account.holder.cleanup)
 

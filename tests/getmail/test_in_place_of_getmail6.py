@@ -62,7 +62,7 @@ class InPlaceOfGetmail6(unittest.TestCase):
 
     def test_names_with_marks(self):
         """getmail6 writes one `-` for each run of certain octets."""
-        self.server.socket.close()
+        self.server.close()
         plain = self.account.rcfile.read_bytes()
         for user, name in (("a/b:c", "a-b-c"), ("a|b", "a-b"), ("a//b", "a-b"), ("a;b", "a-b"), ("a\\b", "a-b"), ("<a>", "-a-"),
                            ("a<|>/;:\\b", "a-b"), ("a-/b", "a--b"), ("a/-/b", "a---b"), ("fred|", "fred-"), ("||", "-"),
@@ -85,7 +85,7 @@ class InPlaceOfGetmail6(unittest.TestCase):
         self.fail("no name comes last")
 
     def test_a_list_that_comes_last(self):
-        self.server.socket.close()
+        self.server.close()
         for name in ("notes", "oldmail-mail.example.org-995-fred"):
             with self.subTest(name):
                 other = self.list_as(name)
@@ -95,7 +95,7 @@ class InPlaceOfGetmail6(unittest.TestCase):
                 other.unlink()
 
     def test_an_empty_list_that_comes_first(self):
-        self.server.socket.close()
+        self.server.close()
         self.list_as("oldmail-mail.example.org-995-u", b"")
         self.check_stopped(self.list_last())
 

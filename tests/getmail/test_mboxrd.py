@@ -33,7 +33,7 @@ NOBODY = 65534
 class Mboxrd(unittest.TestCase):
     def setUp(self):
         self.server = Server(THREE)
-        self.addCleanup(self.server.socket.close)
+        self.addCleanup(self.server.close)
         self.account = MboxAccount(self.server.port)
         self.addCleanup(self.account.holder.cleanup)
 

@@ -452,7 +452,7 @@ class Readers(unittest.TestCase):
 
     def setUp(self):
         self.server = Server(LETTERS)
-        self.addCleanup(self.server.socket.close)
+        self.addCleanup(self.server.close)
         self.account = MboxAccount(self.server.port)
         self.addCleanup(self.account.holder.cleanup)
         self.session()

@@ -30,7 +30,7 @@ def without_size(name):
 class Names(unittest.TestCase):
     def setUp(self):
         self.server = Server(MESSAGES)
-        self.addCleanup(self.server.socket.close)
+        self.addCleanup(self.server.close)
         self.account = Account(self.server.port)
         self.addCleanup(self.account.holder.cleanup)
 

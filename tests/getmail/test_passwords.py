@@ -61,7 +61,7 @@ def base64_around(before, password, after):
 class Passwords(unittest.TestCase):
     def setUp(self):
         self.server = Server([(b"a", b"one\n")])
-        self.addCleanup(self.server.socket.close)
+        self.addCleanup(self.server.close)
         self.account = Account(self.server.port)
         self.addCleanup(self.account.holder.cleanup)
         self.plain = self.account.rcfile.read_bytes()

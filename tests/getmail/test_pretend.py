@@ -30,7 +30,7 @@ class Pretends:
 
     def serve(self, messages):
         self.server = Server(messages)
-        self.addCleanup(self.server.socket.close)
+        self.addCleanup(self.server.close)
         self.account = self.make(self.server.port)
         self.addCleanup(self.account.holder.cleanup)
 

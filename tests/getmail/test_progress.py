@@ -3,8 +3,11 @@
 import contextlib
 import os
 import pty
+import select
 import signal
 import subprocess
+import threading
+import time
 import unittest
 
 from getmail import terminal
@@ -22,7 +25,7 @@ KILOBYTE = 1_000
 class Progress(unittest.TestCase):
     def setUp(self):
         self.server = Server(THREE)
-        self.addCleanup(self.server.socket.close)
+        self.addCleanup(self.server.close)
         self.account = Account(self.server.port)
         self.addCleanup(self.account.holder.cleanup)
 
@@ -83,7 +86,7 @@ class Progress(unittest.TestCase):
         self.assertEqual((status, screen_of(shown)[::2]), (1, [b"getmail: server refused RETR 2", b""]))
 
     def test_a_total_that_comes_an_octet_at_a_time(self):
-        self.server.pause = 0.0002
+        self.server.pause = lambda: time.sleep(0.0002)
         self.server.messages = [(b"%d" % number, b"") for number in range(10, 22)]
         _, _, shown = self.run_on_terminal()
         self.assertEqual([(number, total) for number, total, octets, _ in self.told(shown) if octets == 0],
@@ -111,7 +114,8 @@ class Progress(unittest.TestCase):
 
     def test_the_line_stays_if_the_run_is_killed(self):
         """It says how far the run was."""
-        self.server.pause = 0.002
+        over = threading.Event()
+        self.server.pause = lambda: self.server.commands[-1:] == ["RETR 2"] and over.wait(programs.SECONDS)
         ours, theirs = pty.openpty()
         thread = self.server.begin_session()
         # (a shell's commands in the background ignore SIGINT)
@@ -119,10 +123,11 @@ class Progress(unittest.TestCase):
                                    env=programs.environment(HOME=str(self.account.home)),
                                    preexec_fn=lambda: signal.signal(signal.SIGINT, signal.SIG_DFL))
         shown = b""
-        while b"message 2 of 3, " not in shown:
+        while b"message 2 of 3, " not in shown and select.select([ours], [], [], programs.SECONDS)[0]:
             shown += os.read(ours, 65536)
         process.send_signal(signal.SIGINT)
         process.wait(programs.SECONDS)
+        over.set()
         os.close(theirs)
         with contextlib.suppress(OSError):
             while piece := os.read(ours, 65536):

@@ -26,7 +26,7 @@ def lines_of(with_reasons):
 class Reasons(unittest.TestCase):
     def setUp(self):
         self.server = Server(FIRST)
-        self.addCleanup(self.server.socket.close)
+        self.addCleanup(self.server.close)
         self.account = Account(self.server.port)
         self.addCleanup(self.account.holder.cleanup)
         self.session("-q")

@@ -27,7 +27,7 @@ NOBODY = 65534
 class Refusals(unittest.TestCase):
     def setUp(self):
         self.server = Server(THREE)
-        self.addCleanup(self.server.socket.close)
+        self.addCleanup(self.server.close)
         self.account = Account(self.server.port)
         self.addCleanup(self.account.holder.cleanup)
         self.user = {}

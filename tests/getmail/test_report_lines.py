@@ -14,7 +14,7 @@ LOGIN_AND_LISTINGS = 5
 class Lines(unittest.TestCase):
     def setUp(self):
         self.server = Server(FOUR)
-        self.addCleanup(self.server.socket.close)
+        self.addCleanup(self.server.close)
         self.account = Account(self.server.port)
         self.addCleanup(self.account.holder.cleanup)
         self.heading = b"SimplePOP3Retriever:u@127.0.0.1:%d:\n" % self.server.port

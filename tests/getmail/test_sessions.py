@@ -76,7 +76,7 @@ class Life:
         return self
 
     def __exit__(self, *_):
-        self.server.socket.close()
+        self.server.close()
         self.account.holder.cleanup()
 
     def let_time_pass(self):

@@ -36,7 +36,7 @@ def has_ipv6():
 class Sessions(unittest.TestCase):
     def setUp(self):
         self.server = Server(THREE)
-        self.addCleanup(self.server.socket.close)
+        self.addCleanup(self.server.close)
         self.account = Account(self.server.port)
         self.addCleanup(self.account.holder.cleanup)
 
@@ -284,7 +284,7 @@ class Connections(Sessions):
 
     @unittest.skipUnless(has_ipv6(), "this machine has no IPv6 loopback")
     def test_a_server_with_an_ipv6_address(self):
-        self.server.socket.close()
+        self.server.close()
         self.server.socket = socket.create_server(("::1", 0), family=socket.AF_INET6)
         self.server.socket.settimeout(programs.SECONDS)
         port = self.server.socket.getsockname()[1]

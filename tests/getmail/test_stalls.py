@@ -1,23 +1,25 @@
 """Servers that fall silent or take nothing: each wait has an end, and what was fetched before it stays."""
 
 import contextlib
+import select
 import signal
 import socket
 import threading
-import time
 import unittest
 
 from getmail.account import Account
 from getmail.server import Server
-from harness import preload, programs, waits
+from harness import kernel, preload, programs, waits
 from harness.kernel import LOOPBACK
 
-# What the program asks for, in milliseconds.
-CONNECT_WAIT = 60_000
-WAIT = 180_000
+# The longest waits, in seconds.
+CONNECT_WAIT = 60
+WAIT = 180
 
-# Above the 60th part of the longest wait, and far below what a run has in all.
-SOON = 15
+ASKED = [("nodelay", 1), ("read", WAIT * 1000), ("write", WAIT * 1000)]
+
+# How many times as fast the clock goes where the system ends a wait.
+SPEED = 600
 
 OPENING = b"+OK\r\n" * 3 + b"+OK 2 10\r\n+OK\r\n1 a\r\n2 b\r\n.\r\n+OK\r\n1 5\r\n2 5\r\n.\r\n"
 READING_FAILED = b"getmail: reading from the server failed\n"
@@ -25,10 +27,11 @@ WRITING_FAILED = b"getmail: writing to the server failed\n"
 
 
 class SilentServer:
-    """Says some octets to one client, and then nothing, with the connection left open."""
+    """Says some octets to one client, and then nothing, with the connection left open; `silent` is called at that moment."""
 
-    def __init__(self, said):
+    def __init__(self, said, silent=lambda: None):
         self.said = said
+        self.silent = silent
         self.taken = threading.Event()
         self.over = threading.Event()
         self.listener = socket.create_server((LOOPBACK, 0))
@@ -51,35 +54,44 @@ class SilentServer:
             self.taken.set()
             with client:
                 client.sendall(self.said)
+                kernel.wait_until_taken(client)
+                self.silent()
                 self.over.wait(programs.SECONDS)
 
 
 class Stalls(unittest.TestCase):
     @classmethod
     def setUpClass(cls):
-        cls.hurry = waits.hurry_for(cls)
+        cls.time = waits.time_for(cls)
 
-    def run_quickly(self, account, *words):
-        """A run with short waits, which has to end soon."""
-        begun = time.monotonic()
-        run = account.run(*words, **self.hurry.environment())
-        self.assertLess(time.monotonic() - begun, SOON)
+    def fall_silent(self):
+        """More time passes than a run may wait."""
+        self.time.give(3 * WAIT)
+
+    def run_into_silence(self, account, *words):
+        """A run that waits for the server as long as it may, once."""
+        run = account.run("-q", *words, **self.time.environment())
+        self.assertEqual(self.time.taken(), WAIT)
+        self.assertEqual([row for row in self.time.asked() if row[0] != "poll"], ASKED)
         return run
 
     def check_stall(self, said, held):
-        with SilentServer(said) as server, Account(server.port) as account:
-            self.assertEqual(self.run_quickly(account, "-q"), programs.Run(1, b"", READING_FAILED))
+        with SilentServer(said, self.fall_silent) as server, Account(server.port) as account:
+            self.assertEqual(self.run_into_silence(account), programs.Run(1, b"", READING_FAILED))
             self.assertEqual(account.held(), held)
             self.assertEqual(list((account.maildir / "tmp").iterdir()), [])
-            return self.hurry.asked()
 
     def test_no_greeting(self):
-        asked = self.check_stall(b"", [])
-        self.assertEqual([row for row in asked if row[0] != "poll"], [("nodelay", 1), ("read", WAIT), ("write", WAIT)])
+        self.check_stall(b"", [])
+
+    def test_the_system_ends_the_wait(self):
+        hurry = waits.hurry_for(type(self), SPEED)
+        with SilentServer(b"") as server, Account(server.port) as account:
+            self.assertEqual(account.run("-q", **hurry.environment()), programs.Run(1, b"", READING_FAILED))
 
     def test_the_reason_is_the_silence(self):
-        with SilentServer(b"+OK\r\n") as server, Account(server.port) as account:
-            run = self.run_quickly(account, "-q", "--why")
+        with SilentServer(b"+OK\r\n", self.fall_silent) as server, Account(server.port) as account:
+            run = self.run_into_silence(account, "--why")
             told = f"getmail: u@{LOOPBACK}:{server.port}: {LOOPBACK}:{server.port}: silent for 180 seconds\n"
             self.assertEqual(run, programs.Run(1, b"", READING_FAILED + told.encode()))
 
@@ -101,45 +113,57 @@ class Stalls(unittest.TestCase):
             listener.bind((LOOPBACK, 0))
             listener.listen(0)
             port = listener.getsockname()[1]
-            # These fill the queue of connections that wait to be accepted; no other connection is answered then.
-            for _ in range(4):
-                waiting = others.enter_context(socket.socket())
-                waiting.setblocking(False)
-                waiting.connect_ex((LOOPBACK, port))
-            time.sleep(0.1)
+            # One of these fills the queue of connections that wait to be accepted; no other connection is answered then.
+            waiting = [others.enter_context(socket.socket()) for _ in range(4)]
+            for client in waiting:
+                client.setblocking(False)
+                client.connect_ex((LOOPBACK, port))
+            self.assertTrue(select.select([], waiting, [], programs.SECONDS)[1])
             with Account(port) as account:
                 line = f"getmail: cannot connect to {LOOPBACK}:{port}\n".encode()
-                self.assertEqual(self.run_quickly(account), programs.Run(1, b"", line))
-            first, asked = self.hurry.asked()[0]
+                environment = self.time.environment()
+                self.time.give(3 * WAIT)
+                self.assertEqual(account.run(**environment), programs.Run(1, b"", line))
+            (first, asked), = self.time.asked()
             self.assertEqual(first, "poll")
             # What is left of the bound; a busy machine may have kept the program waiting meanwhile.
-            self.assertTrue(CONNECT_WAIT // 2 <= asked <= CONNECT_WAIT, asked)
+            self.assertTrue(CONNECT_WAIT * 500 <= asked <= CONNECT_WAIT * 1000, asked)
+            self.assertEqual(self.time.taken(), -(-asked // 1000))
 
     def test_a_server_that_takes_its_time_is_waited_for(self):
         """An octet now and then is enough: the bound is on each wait, not on the session."""
         messages = [(b"a", b"one\n"), (b"b", b"two\n")]
         with Server(messages) as server, Account(server.port) as account:
-            server.pause = 0.03
+            environment = self.time.environment()
+
+            def pause():
+                kernel.wait_until_taken(server.client)
+                self.time.let_pass(WAIT // 2)
+
+            server.pause = pause
             thread = server.begin_session()
-            run = account.run("-q", **self.hurry.environment())
+            run = account.run("-q", **environment)
             thread.join(programs.SECONDS)
             self.assertEqual(run, programs.SILENT)
             self.assertEqual(account.held(), messages)
+            self.assertGreater(self.time.taken(), 40 * WAIT)
 
 
 class Stopped(unittest.TestCase):
+    def stop(self, process):
+        """Stops a run that waits for an octet, and lets it go on."""
+        kernel.wait_for_state(process.pid, "S")
+        process.send_signal(signal.SIGSTOP)
+        kernel.wait_for_state(process.pid, "T")
+        process.send_signal(signal.SIGCONT)
+
     def test_a_run_that_is_stopped_and_goes_on(self):
         """As by Ctrl-Z and `fg`, again and again: the system interrupts a read whose wait is bounded."""
         messages = [(b"a", b"one\n"), (b"b", b"two\n")]
         with Server(messages) as server, Account(server.port) as account:
-            server.pause = 0.01
-            thread = server.begin_session()
+            server.pause = lambda: self.stop(process)
             process = account.start("-q")
-            deadline = time.monotonic() + programs.SECONDS
-            while process.poll() is None and time.monotonic() < deadline:
-                for sent in (signal.SIGSTOP, signal.SIGCONT):
-                    process.send_signal(sent)
-                    time.sleep(0.01)
+            thread = server.begin_session()
             out, err = process.communicate(timeout=programs.SECONDS)
             thread.join(programs.SECONDS)
             self.assertEqual((process.returncode, out, err), (0, b"", b""))
@@ -153,32 +177,29 @@ class Deaf(unittest.TestCase):
 
     @classmethod
     def setUpClass(cls):
-        cls.hurry = waits.hurry_for(cls)
-        library = preload.library("fill_socket")
-        cls.filler = library.__enter__()
-        cls.addClassCleanup(library.__exit__, None, None, None)
+        cls.time = waits.time_for(cls)
+        cls.filler = cls.enterClassContext(preload.library("fill_socket"))
 
-    def run_deaf(self, server, account, commands):
-        """A run whose server reads this many commands, and the seconds that it took."""
-        environment = self.hurry.environment()
-        environment["LD_PRELOAD"] = f"{self.filler} {environment['LD_PRELOAD']}"
+    def run_deaf(self, server, account, commands, **environment):
+        """A run whose server reads this many commands, and more time passes then than a run may wait."""
+        environment["LD_PRELOAD"] = f"{self.filler} {environment.get('LD_PRELOAD', '')}"
         server.deaf_after = commands
         thread = server.begin_session()
-        begun = time.monotonic()
-        run = account.run("-q", FILL_BEFORE=str(commands + 1), **environment)
-        passed = time.monotonic() - begun
+        process = account.start("-q", FILL_BEFORE=str(commands + 1), **environment)
+        self.assertTrue(server.deaf.wait(programs.SECONDS))
+        self.time.give(3 * WAIT)
+        out, err = process.communicate(timeout=programs.SECONDS)
         server.hung_up.set()
         thread.join(programs.SECONDS)
         server.deaf_after = None
-        return run, passed
+        return programs.Run(process.returncode, out, err)
 
     def check_deaf(self, commands, held):
         with Server(self.messages) as server, Account(server.port, "delete = true\n") as account:
-            run, passed = self.run_deaf(server, account, commands)
+            run = self.run_deaf(server, account, commands, **self.time.environment())
             self.assertEqual(run, programs.Run(1, b"", WRITING_FAILED))
-            self.assertGreaterEqual(passed, WAIT / 1000 / waits.SPEED)
-            self.assertLess(passed, SOON)
-            self.assertIn(("write", WAIT), self.hurry.asked())
+            self.assertEqual(self.time.taken(), WAIT)
+            self.assertEqual([row for row in self.time.asked() if row[0] != "poll"], ASKED)
             self.assertEqual(account.held(), self.messages[:held])
             self.assertEqual(list((account.maildir / "tmp").iterdir()), [])
             thread = server.begin_session()
@@ -186,6 +207,11 @@ class Deaf(unittest.TestCase):
             thread.join(programs.SECONDS)
             self.assertEqual(account.held(), self.messages)
             self.assertEqual(server.messages, [])
+
+    def test_the_system_ends_the_wait(self):
+        with Server(self.messages) as server, Account(server.port) as account:
+            run = self.run_deaf(server, account, 0, FILL_PART=str(SPEED))
+            self.assertEqual(run, programs.Run(1, b"", WRITING_FAILED))
 
     def test_the_first_command(self):
         self.check_deaf(0, 0)

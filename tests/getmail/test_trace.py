@@ -78,7 +78,7 @@ class Rehearsal(unittest.TestCase):
 class Session(unittest.TestCase):
     def setUp(self):
         self.server = Server(TWO)
-        self.addCleanup(self.server.socket.close)
+        self.addCleanup(self.server.close)
         self.account = Account(self.server.port)
         self.addCleanup(self.account.holder.cleanup)
 
@@ -187,7 +187,7 @@ class Session(unittest.TestCase):
         self.assertEqual(lines_of(run)[0], f"trace: open {self.account.folder}/\\x1b[2J.rc: {NO_MEMBER}")
 
     def test_a_server_that_takes_no_connection(self):
-        self.server.socket.close()
+        self.server.close()
         run = self.account.run("--trace")
         self.assertEqual(lines_of(run), [f"trace: connect {LOOPBACK}:{self.server.port}: Connection refused",
                                          f"getmail: cannot connect to {LOOPBACK}:{self.server.port}"])

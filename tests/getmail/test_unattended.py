@@ -230,7 +230,7 @@ class Unattended(unittest.TestCase):
         self.assertEqual(self.session(), (0, [self.line(f"works again: runs had failed since {DATE}")]))
 
     def test_a_server_that_cannot_be_reached(self):
-        self.server.socket.close()
+        self.server.close()
         run = self.run_getmail()
         self.assertEqual((run.status, len(run.err.splitlines())), (1, 3))
         self.assertEqual(self.run_getmail(), programs.Run(1, b"", b""))
@@ -340,7 +340,7 @@ class Unattended(unittest.TestCase):
         self.account.rcfile.write_bytes(good.replace(b"port = ", b"port = x"))
         self.run_getmail()
         self.account.rcfile.write_bytes(good)
-        self.server.socket.close()
+        self.server.close()
         self.run_getmail()
         path, = self.told()
         told = faults()

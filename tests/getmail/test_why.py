@@ -25,7 +25,7 @@ class Sessions(unittest.TestCase):
 
     def setUp(self):
         self.server = Server(TWO)
-        self.addCleanup(self.server.socket.close)
+        self.addCleanup(self.server.close)
         self.account = self.account_class(self.server.port)
         self.addCleanup(self.account.holder.cleanup)
 
@@ -290,7 +290,7 @@ class Table(unittest.TestCase):
 
     def setUp(self):
         self.server = Server(TWO)
-        self.addCleanup(self.server.socket.close)
+        self.addCleanup(self.server.close)
         self.account = Account(self.server.port)
         self.addCleanup(self.account.holder.cleanup)
         self.usual = self.server._answer
@@ -361,7 +361,7 @@ class Table(unittest.TestCase):
                               (12, "it ended in the reply to USER u"), (17, "it ended in the reply to PASS *"),
                               (22, "it ended in the reply to STAT")):
             server = Server(TWO)
-            self.addCleanup(server.socket.close)
+            self.addCleanup(server.close)
             with self.subTest(octets), Account(server.port) as account:
                 thread = server.begin_session(octets)
                 run = account.run("-q", "--why")

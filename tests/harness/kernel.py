@@ -1,7 +1,10 @@
 """What the kernel says about a running server, so that no connection is spent on finding it out."""
 
 import contextlib
+import fcntl
 import socket
+import sys
+import termios
 import time
 from pathlib import Path
 
@@ -35,6 +38,34 @@ def wait_for_listener(process, port):
             return True
         time.sleep(0.005)
     return False
+
+
+def octets_of(end, queue):
+    """How many octets wait in a queue of a socket or a pipe."""
+    return int.from_bytes(fcntl.ioctl(end, queue, bytes(4)), sys.byteorder)
+
+
+def wait_for(happened, fault):
+    """Waits until something has happened that the kernel tells nobody; if it doesn't, the fault is told."""
+    deadline = time.monotonic() + SECONDS_TO_LISTEN
+    while not happened():
+        if time.monotonic() > deadline:
+            raise AssertionError(fault)
+        time.sleep(0.001)
+
+
+def wait_until_taken(connection):
+    """Waits until all that was written to a connection is where the program at its other end reads it."""
+    wait_for(lambda: octets_of(connection, termios.TIOCOUTQ) == 0, "the other end of a connection takes nothing")
+
+
+def _state_of(process):
+    return Path(f"/proc/{process}/stat").read_text().rpartition(")")[2].split()[0]
+
+
+def wait_for_state(process, state):
+    """Waits until the process of that number is in this state, `S` while it waits and `T` while it is stopped."""
+    wait_for(lambda: _state_of(process) == state, f"process {process} is never in state {state}")
 
 
 def is_tmpfs(path):
