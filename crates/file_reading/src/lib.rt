@@ -4,9 +4,10 @@
 ghost use Rattle.std.specs.Prelude.{◌≡◌, ℕ, List, take, IfErr, IfOk, IfSome};
 
 use std::alloc::Global;
+use std::fs;
 use std::io::{self, Read};
 use std::rt::Files;
-use system_calls::System;
+use system_calls::{Noted, System};
 
 /// One that is asked for the octets of files.
 pub trait ReadFile {
@@ -38,6 +39,8 @@ impl<'a, R: Files + AllocGlobal> ReadFile for System<'a, R> {
     ghost refused = { λ _ _. Unit {0} };
 
     fn read(&self, path: &str, most: u64) -> io::Result<Vec<u8>> {
-        read_front(self.alloc(), self.open(path)?, most)
+        let file = self.refusals.noted("open", path, fs::open(self.rt, path))?;
+        let file = Noted::new(self.alloc(), file, path, self.refusals);
+        read_front(self.alloc(), file, most)
     }
 }

@@ -170,7 +170,7 @@ impl<'a, R: Files + Clock + RandomSource + AllocGlobal + Clone + Drop> Maildrop
             return Err(DropFault::Refused);
         }
         let mut last_seen = SeenFiles::none();
-        self.system.refusals.forget();
+        let _ = self.system.refusals.take();
         match self.list_messages(&mut last_seen) {
             Ok(entries) => {
                 self.last_seen = last_seen;

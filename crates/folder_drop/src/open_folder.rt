@@ -95,7 +95,7 @@ impl<'a, R: Files + AllocGlobal> OpenFolder<'a, R> {
         let descriptor = open_descriptor(system, path.as_str())?;
         let number_text = format!(in system.alloc(); "{}", descriptor.number)?;
         let way = format!(in system.alloc(); "{OPEN_FILES}/{number_text}")?;
-        let found = system.stat(way.as_str())?;
+        let found = system.refusals.kept(system.stat(way.as_str()))?;
         Ok(OpenFolder {
             system,
             path,
@@ -147,7 +147,10 @@ impl<'a, R: Files + AllocGlobal> OpenFolder<'a, R> {
 
     /// Refused if another folder is in its place by now, or none.
     pub fn check_place(&self) -> io::Result<()> {
-        let found = self.system.stat(self.path.as_str())?;
+        let found = self
+            .system
+            .refusals
+            .kept(self.system.stat(self.path.as_str()))?;
         if FileNumber::of(&found) == self.number {
             return Ok(());
         }

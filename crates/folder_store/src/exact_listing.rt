@@ -11,9 +11,9 @@ use std::fs::Metadata;
 use std::io::Read;
 use std::os::unix::fs::MetadataExt;
 use std::rt::Files;
+use std::thread;
 use std::time::{Clock, Duration};
-use std::{io, thread};
-use system_calls::System;
+use system_calls::{Denial, System};
 
 /// How many milliseconds a folder must be unchanged before it is listed, so that each later change
 /// gives it another time: longer than the steps of the clock by which Linux stamps changes (1 to 10).
@@ -96,9 +96,9 @@ impl Sighting {
     fn now<R: Files + Clock + AllocGlobal>(
         system: &System<'_, R>,
         path: &str,
-    ) -> io::Result<Sighting> {
+    ) -> Result<Sighting, Denial> {
         let folder = system.stat(path)?;
-        let at = system.rt.monotonic()?;
+        let at = system.asked("clock_gettime", path, system.rt.monotonic())?;
         Ok(Sighting { folder, at })
     }
 
@@ -107,13 +107,19 @@ impl Sighting {
     }
 
     /// How long to wait before each later change gives the folder another time than the one seen.
-    fn wait<R: Clock>(&self, rt: &R) -> io::Result<Duration> {
+    fn wait<R: Files + Clock + AllocGlobal>(
+        &self,
+        system: &System<'_, R>,
+        path: &str,
+    ) -> Result<Duration, Denial> {
+        let rt = system.rt;
         // A clock of dates before 1970 is an error: then nothing is known of the age.
         let age = match rt.since_1970() {
             Ok(now) => self.change().age(now),
             Err(_) => Duration::ZERO,
         };
-        let watched = rt.monotonic()?.saturating_sub(self.at);
+        let now = system.asked("clock_gettime", path, rt.monotonic())?;
+        let watched = now.saturating_sub(self.at);
         Ok(left_of(self.change().step(), age, watched))
     }
 }
@@ -237,16 +243,16 @@ fn pass_through<R: Files + Clock + AllocGlobal>(
     path: &str,
     seen: &Sighting,
     search: &mut Search<'_>,
-) -> io::Result<Vec<String>> {
+) -> Result<Vec<String>, Denial> {
     let mut found = Vec::new(system.alloc());
     let mut octets = vec![in system.alloc(); 0u8; READ_AT_ONCE]?;
     // With the slash a link to a folder is followed.
     let within = format!(in system.alloc(); "{path}/")?;
     let opened = system.rt.open_dir(within.as_str());
-    let mut folder = system.refusals.noted("open", path, opened)?;
+    let mut folder = system.asked("open", path, opened)?;
     for reads in 1..u64::MAX {
         let read = folder.read(&mut octets);
-        let count = system.refusals.noted("read", path, read)?;
+        let count = system.asked("read", path, read)?;
         if count == 0 {
             break;
         }
@@ -273,12 +279,12 @@ pub fn list_names<R: Files + Clock + AllocGlobal>(
     system: &System<'_, R>,
     path: &str,
     sought: Sought<'_>,
-) -> io::Result<FolderNames> {
+) -> Result<FolderNames, Denial> {
     let mut search = Search::new(sought);
-    let start = system.rt.monotonic()?;
+    let start = system.asked("clock_gettime", path, system.rt.monotonic())?;
     let mut seen = Sighting::now(system, path)?;
     for _ in 0..MOST_LISTINGS {
-        let wait = seen.wait(system.rt)?;
+        let wait = seen.wait(system, path)?;
         if wait > Duration::ZERO {
             thread::sleep(system.rt, wait);
         }
@@ -297,5 +303,5 @@ pub fn list_names<R: Files + Clock + AllocGlobal>(
             Listing::TooBusy => break,
         }
     }
-    Err(system.refusals.refuse(path, "changes all the time"))
+    Err(Denial::because(system.alloc(), path, "changes all the time"))
 }

@@ -10,30 +10,30 @@ use std::alloc::Global;
 use std::fs::{Metadata, OpenFile};
 use std::io::{self, ErrorKind, Read, Seek, SeekFrom, Write};
 use std::os::unix::fs::MetadataExt;
-use system_calls::Refusals;
+use system_calls::{Denial, Noted};
 
 /// Why a watched file isn't used any more.
 const CHANGED: &str = "changed by another program";
 
 /// The handle by which a file is changed, which appends, and the file's name.
 #[derive(Drop)]
-pub struct Changed<F: Drop> {
-    pub file: F,
+pub struct Changed<'a, F: Drop> {
+    pub file: Noted<'a, F>,
     pub name: String,
 }
 
 /// A folder itself, open, and which one it is.
 #[derive(Drop)]
-pub struct Names<F: Drop> {
-    folder: F,
+pub struct Names<'a, F: Drop> {
+    folder: Noted<'a, F>,
     device: u64,
     inode: u64,
 }
 
-impl<F: OpenFile + Drop> Names<F> {
+impl<'a, F: OpenFile + Drop> Names<'a, F> {
     /// The names of an open folder.
-    pub fn of(folder: F) -> io::Result<Names<F>> {
-        let found = folder.metadata()?;
+    pub fn of(folder: Noted<'a, F>) -> Result<Names<'a, F>, Denial> {
+        let found = folder.at(folder.metadata())?;
         Ok(Names {
             folder,
             device: found.dev(),
@@ -49,8 +49,8 @@ impl<F: OpenFile + Drop> Names<F> {
 
 /// The files of a folder that are open, and how a watched one was left.
 #[derive(Drop)]
-pub struct Handles<F: Drop> {
-    changed: Option<Changed<F>>,
+pub struct Handles<'a, F: Drop> {
+    changed: Option<Changed<'a, F>>,
     /// Whether the handle of the file that was changed last is kept for its next change.
     keeps_handle: bool,
     /// Whether the one file that is used here is watched: it is neither measured nor changed once another
@@ -59,14 +59,14 @@ pub struct Handles<F: Drop> {
     /// How the watched file was seen first, or left by the last change here.
     left: Option<FileState>,
     /// The folder itself, from its first flush on.
-    names: Option<Names<F>>,
+    names: Option<Names<'a, F>>,
     /// Whether the system flushes no folders, so that the names may not be durable.
     is_unflushed: bool,
 }
 
-impl<F: Drop> Handles<F> {
+impl<'a, F: Drop> Handles<'a, F> {
     /// Nothing is open.
-    pub fn new(keeps_handle: bool, watches: bool) -> Handles<F> {
+    pub fn new(keeps_handle: bool, watches: bool) -> Handles<'a, F> {
         Handles {
             changed: None,
             keeps_handle,
@@ -90,7 +90,7 @@ impl<F: Drop> Handles<F> {
     }
 
     /// The handle kept from the file's last change, if it is. Another is closed.
-    pub fn take_kept(&mut self, name: &str) -> Option<Changed<F>> {
+    pub fn take_kept(&mut self, name: &str) -> Option<Changed<'a, F>> {
         let changed = self.changed.take()?;
         if self.keeps_handle && changed.name.as_str() == name {
             Some(changed)
@@ -100,7 +100,7 @@ impl<F: Drop> Handles<F> {
     }
 
     /// The folder itself, if it is open. It is taken out.
-    pub fn take_names(&mut self) -> Option<Names<F>> {
+    pub fn take_names(&mut self) -> Option<Names<'a, F>> {
         self.names.take()
     }
 
@@ -110,21 +110,21 @@ impl<F: Drop> Handles<F> {
     }
 }
 
-impl<F: OpenFile + Drop> Handles<F> {
+impl<'a, F: OpenFile + Drop> Handles<'a, F> {
     // A watched file must be as it was left.
     fn check_left(
         &mut self,
         paths: &HostPaths<'_>,
         name: &str,
         found: &Metadata,
-    ) -> io::Result<()> {
+    ) -> Result<(), Denial> {
         if !self.watches {
             return Ok(());
         }
         let state = FileState::of(found);
         let left = self.left.unwrap_or(state);
         if left != state {
-            return Err(paths.refuse(name, CHANGED));
+            return Err(paths.refusal(name, CHANGED));
         }
         self.left = Some(state);
         Ok(())
@@ -136,15 +136,15 @@ impl<F: OpenFile + Drop> Handles<F> {
         &mut self,
         paths: &HostPaths<'_>,
         name: &str,
-        file: &F,
+        file: &Noted<'_, F>,
         more: u64,
-    ) -> io::Result<()> {
+    ) -> Result<(), Denial> {
         let Some(left) = self.left else {
             return Ok(());
         };
-        let state = FileState::of(&file.metadata()?);
+        let state = FileState::of(&file.at(file.metadata())?);
         if !state.grew_by(left, more) {
-            return Err(paths.refuse(name, CHANGED));
+            return Err(paths.refusal(name, CHANGED));
         }
         self.left = Some(state);
         Ok(())
@@ -152,10 +152,11 @@ impl<F: OpenFile + Drop> Handles<F> {
 
     /// The size of a file by the handle that is kept, which also tells whether the file was removed
     /// meanwhile: nothing is written to one that has no name any more.
-    pub fn measure(&mut self, changed: Changed<F>) -> io::Result<u64> {
-        let found = changed.file.metadata()?;
+    pub fn measure(&mut self, changed: Changed<'a, F>) -> Result<u64, Denial> {
+        let file = &changed.file;
+        let found = file.at(file.metadata())?;
         if found.nlink() == 0 {
-            return Err(io::Error::from(ErrorKind::NotFound));
+            return file.at(Err(io::Error::from(ErrorKind::NotFound)));
         }
         self.changed = Some(changed);
         Ok(found.len())
@@ -166,17 +167,18 @@ impl<F: OpenFile + Drop> Handles<F> {
         &mut self,
         paths: &HostPaths<'_>,
         name: &str,
-        changed: Changed<F>,
+        changed: Changed<'a, F>,
         len: u64,
-    ) -> io::Result<()> {
-        let found = changed.file.metadata()?;
+    ) -> Result<(), Denial> {
+        let file = &changed.file;
+        let found = file.at(file.metadata())?;
         self.check_left(paths, name, &found)?;
         if found.len() < len {
-            return Err(paths.refuse(name, CHANGED));
+            return Err(paths.refusal(name, CHANGED));
         }
-        let answer = changed.file.set_len(len);
+        let answer = file.at(file.set_len(len));
         if answer.is_ok() && self.watches {
-            self.left = Some(FileState::of(&changed.file.metadata()?));
+            self.left = Some(FileState::of(&file.at(file.metadata())?));
         }
         self.changed = Some(changed);
         answer
@@ -184,14 +186,14 @@ impl<F: OpenFile + Drop> Handles<F> {
 
     /// Flushes the file that was changed last by the handle that changed it, if it is this one, and says
     /// whether it is. After a fault that handle isn't used again.
-    pub fn sync(&mut self, paths: &HostPaths<'_>, name: &str) -> io::Result<bool> {
+    pub fn sync(&mut self, paths: &HostPaths<'_>, name: &str) -> Result<bool, Denial> {
         let Some(changed) = self.changed.take() else {
             return Ok(false);
         };
         if changed.name.as_str() != name {
             return Ok(false);
         }
-        changed.file.sync_all()?;
+        changed.file.at(changed.file.sync_all())?;
         // Some systems set the time of change only now.
         self.note_change(paths, name, &changed.file, 0)?;
         if self.keeps_handle {
@@ -201,26 +203,26 @@ impl<F: OpenFile + Drop> Handles<F> {
     }
 
     /// Flushes the names of the folder, which stays open unless that is refused.
-    pub fn sync_names(&mut self, names: Names<F>, refusals: &Refusals) -> io::Result<()> {
-        self.is_unflushed |= !flush_folder(&names.folder, refusals)?;
+    pub fn sync_names(&mut self, names: Names<'a, F>) -> Result<(), Denial> {
+        self.is_unflushed |= !flush_folder(&names.folder)?;
         self.names = Some(names);
         Ok(())
     }
 }
 
-impl<F: OpenFile + Write + Drop> Handles<F> {
+impl<'a, F: OpenFile + Write + Drop> Handles<'a, F> {
     // Appends to a watched file. What others append meanwhile isn't taken for a part of it.
     fn write_watched(
         &mut self,
         paths: &HostPaths<'_>,
         name: &str,
-        file: &mut F,
+        file: &mut Noted<'_, F>,
         bytes: &[u8],
-    ) -> io::Result<()> {
-        self.check_left(paths, name, &file.metadata()?)?;
+    ) -> Result<(), Denial> {
+        self.check_left(paths, name, &file.at(file.metadata())?)?;
         let (count, answer) = write_counted(file, bytes);
         self.note_change(paths, name, file, count)?;
-        answer
+        file.at(answer)
     }
 
     /// Appends to a file.
@@ -228,26 +230,33 @@ impl<F: OpenFile + Write + Drop> Handles<F> {
         &mut self,
         paths: &HostPaths<'_>,
         name: &str,
-        changed: Changed<F>,
+        changed: Changed<'a, F>,
         bytes: &[u8],
-    ) -> io::Result<()> {
+    ) -> Result<(), Denial> {
         let mut changed = changed;
         let answer = if self.watches {
             self.write_watched(paths, name, &mut changed.file, bytes)
         } else {
-            changed.file.write_all(bytes)
+            let answer = changed.file.write_all(bytes);
+            changed.file.at(answer)
         };
         self.changed = Some(changed);
         answer
     }
 }
 
-impl<F: OpenFile + Read + Seek + Drop> Handles<F> {
+impl<'a, F: OpenFile + Read + Seek + Drop> Handles<'a, F> {
     /// The size of an open file and its ends.
-    pub fn edges(&mut self, paths: &HostPaths<'_>, name: &str, file: &mut F) -> io::Result<Edges> {
-        let found = file.metadata()?;
+    pub fn edges(
+        &mut self,
+        paths: &HostPaths<'_>,
+        name: &str,
+        file: &mut Noted<'_, F>,
+    ) -> Result<Edges, Denial> {
+        let found = file.at(file.metadata())?;
         self.check_left(paths, name, &found)?;
-        edges_in(file, found.len())
+        let edges = edges_in(file, found.len());
+        file.at(edges)
     }
 }
 

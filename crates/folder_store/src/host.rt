@@ -12,12 +12,12 @@ use crate::mail_folders::Sought;
 use crate::process_mark::ProcessMark;
 use crate::system::{folder_of, make_file, sweep};
 use mail_store::{Edges, StoreFault};
-use std::alloc::Global;
+use std::alloc::{AllocError, Global};
 use std::fs::{Metadata, OpenFile, OpenOptions};
-use std::io::{self, ErrorKind, Write};
+use std::io::{ErrorKind, Write};
 use std::rt::Files;
 use std::time::Clock;
-use system_calls::{Noted, Refusals, System};
+use system_calls::{Denial, Noted, Refusals, System};
 
 /// Why what a name leads to isn't used.
 const IRREGULAR: &str = "not a regular file";
@@ -34,7 +34,7 @@ const LEADS_NOWHERE: &str = "a link that leads nowhere";
 pub struct HostFolder<'a, R: Files> {
     system: &'a System<'a, R>,
     paths: HostPaths<'a>,
-    handles: Handles<Noted<'a, R::File>>,
+    handles: Handles<'a, R::File>,
 }
 
 /// A file of the machine's file system that was made, and its path.
@@ -60,7 +60,6 @@ impl<'a, R: Files + AllocGlobal> HostFolder<'a, R> {
             system,
             paths: HostPaths {
                 alloc: system.alloc(),
-                refusals: system.refusals,
                 base: path,
                 folder,
                 scratch: "tmp",
@@ -88,7 +87,6 @@ impl<'a, R: Files + AllocGlobal> HostFolder<'a, R> {
             system,
             paths: HostPaths {
                 alloc: system.alloc(),
-                refusals: system.refusals,
                 base: folder_of(path),
                 folder: "",
                 scratch: "",
@@ -113,44 +111,37 @@ impl<'a, R: Files + AllocGlobal> HostFolder<'a, R> {
 
     // The path of a regular file, or of a link to one. Nothing else is opened: a pipe that nobody
     // writes to would be waited for. The system itself refuses a folder, with its reason.
-    fn regular_path(&self, name: &str) -> io::Result<String> {
+    fn regular_path(&self, name: &str) -> Result<String, Denial> {
         let path = self.paths.path_of(name)?;
         match self.system.stat(path.as_str()) {
             Ok(found) if found.is_file() || found.is_dir() => Ok(path),
-            Ok(_) => Err(self.paths.refuse(name, IRREGULAR)),
+            Ok(_) => Err(self.paths.refusal(name, IRREGULAR)),
             Err(fault) if fault.kind() == ErrorKind::NotFound && self.is_link(name) => {
-                Err(self.paths.refuse(name, LEADS_NOWHERE))
+                Err(self.paths.refusal(name, LEADS_NOWHERE))
             }
             Err(fault) => Err(fault),
         }
     }
 
     // The regular file of a name, opened to be read.
-    fn open_regular(&self, name: &str) -> io::Result<Noted<'a, R::File>> {
+    fn open_regular(&self, name: &str) -> Result<Noted<'a, R::File>, Denial> {
         self.system.open(self.regular_path(name)?.as_str())
     }
 
     // The folder's metadata.
-    pub(crate) fn look_at_folder(&self) -> io::Result<Metadata> {
+    pub(crate) fn look_at_folder(&self) -> Result<Metadata, Denial> {
         self.system.stat(self.paths.folder_path()?.as_str())
     }
 
-    // Notes that something has a name, and says whether it is no file.
-    pub(crate) fn refuse_taken(&self, name: &str) -> bool {
-        let is_file = !matches!(self.look_up(name), Ok(found) if !found.is_file());
-        let words = if is_file {
-            "is there already"
-        } else {
-            IRREGULAR
-        };
-        self.paths.refuse(name, words);
-        !is_file
+    // Whether something that is no file has a name.
+    pub(crate) fn is_taken_by_other(&self, name: &str) -> bool {
+        matches!(self.look_up(name), Ok(found) if !found.is_file())
     }
 
-    // Puts a file that was made under a name, if nothing has it, and says whether it did. The file is given up else.
-    pub(crate) fn put_new(&mut self, file: HostNewFile<'a, R>, name: &str) -> io::Result<bool> {
+    // Puts a file that was made under a name, if nothing has it. The file is given up else.
+    pub(crate) fn put_new(&mut self, file: HostNewFile<'a, R>, name: &str) -> Result<(), Denial> {
         let answer = self.name_made(file.path.as_str(), name);
-        if !matches!(answer, Ok(true)) {
+        if answer.is_err() {
             let _ = self.system.unlink(file.path.as_str());
         }
         answer
@@ -173,16 +164,16 @@ impl<'a, R: Files + AllocGlobal> HostFolder<'a, R> {
         }
     }
 
-    // Notes why the folder isn't used.
-    pub(crate) fn refuse_folder(&self, words: &str) {
-        self.paths.refuse_folder(words)
+    // Why the folder isn't used.
+    pub(crate) fn folder_refusal(&self, words: &str) -> Denial {
+        self.paths.folder_refusal(words)
     }
 
-    fn look_up(&self, name: &str) -> io::Result<Metadata> {
+    fn look_up(&self, name: &str) -> Result<Metadata, Denial> {
         self.system.lstat(self.paths.path_of(name)?.as_str())
     }
 
-    fn make_marked(&self, name: &str) -> io::Result<HostNewFile<'a, R>> {
+    fn make_marked(&self, name: &str) -> Result<HostNewFile<'a, R>, Denial> {
         let path = self.paths.made_path(name)?;
         let file = make_file(self.system, path.as_str())?;
         Ok(HostNewFile {
@@ -192,7 +183,7 @@ impl<'a, R: Files + AllocGlobal> HostFolder<'a, R> {
         })
     }
 
-    fn rename_made(&mut self, path: &str, name: &str) -> io::Result<()> {
+    fn rename_made(&mut self, path: &str, name: &str) -> Result<(), Denial> {
         let to = self.paths.path_of(name)?;
         self.handles.forget_changed();
         self.system.rename(path, to.as_str())
@@ -200,30 +191,36 @@ impl<'a, R: Files + AllocGlobal> HostFolder<'a, R> {
 
     // A second name is given at one step, and only if nothing has it. Some file systems have no second names: there the
     // name is looked up, and what comes to it before the rename is replaced.
-    fn name_made(&self, path: &str, name: &str) -> io::Result<bool> {
+    fn name_made(&self, path: &str, name: &str) -> Result<(), Denial> {
         let to = self.paths.path_of(name)?;
         match self.system.link(path, to.as_str()) {
             Ok(()) => {
-                if self.system.unlink(path).is_err() {
-                    self.system.refusals.forget();
-                }
-                Ok(true)
+                let _ = self.system.unlink(path);
+                Ok(())
             }
-            Err(fault) if fault.kind() == ErrorKind::AlreadyExists => Ok(false),
+            Err(fault) if fault.kind() == ErrorKind::AlreadyExists => Err(self.taken(name)),
             Err(fault) if has_no_links(&fault) => {
-                self.system.refusals.forget();
                 if self.is_taken(name)? {
-                    return Ok(false);
+                    return Err(self.taken(name));
                 }
-                self.system.rename(path, to.as_str())?;
-                Ok(true)
+                self.system.rename(path, to.as_str())
             }
             Err(fault) => Err(fault),
         }
     }
 
+    // Why nothing is put under a name.
+    fn taken(&self, name: &str) -> Denial {
+        let words = if self.is_taken_by_other(name) {
+            IRREGULAR
+        } else {
+            "is there already"
+        };
+        self.paths.refusal(name, words)
+    }
+
     // Whether something has a name, be it a link that leads nowhere.
-    fn is_taken(&self, name: &str) -> io::Result<bool> {
+    fn is_taken(&self, name: &str) -> Result<bool, Denial> {
         match self.look_up(name) {
             Ok(_) => Ok(true),
             Err(fault) if fault.kind() == ErrorKind::NotFound => Ok(false),
@@ -231,25 +228,27 @@ impl<'a, R: Files + AllocGlobal> HostFolder<'a, R> {
         }
     }
 
-    fn read_all(&self, name: &str) -> io::Result<Vec<u8>> {
+    fn read_all(&self, name: &str) -> Result<Vec<u8>, Denial> {
         let mut file = self.open_regular(name)?;
-        bytes_in(&mut file, self.system.alloc())
+        let bytes = bytes_in(&mut file, self.system.alloc());
+        file.at(bytes)
     }
 
-    fn read_edges(&mut self, name: &str) -> io::Result<Edges> {
+    fn read_edges(&mut self, name: &str) -> Result<Edges, Denial> {
         let mut file = self.open_regular(name)?;
         self.handles.edges(&self.paths, name, &mut file)
     }
 
-    fn read_piece(&self, name: &str, start: u64, buf: &mut [u8]) -> io::Result<usize>
+    fn read_piece(&self, name: &str, start: u64, buf: &mut [u8]) -> Result<usize, Denial>
         ensures { IfOk result (λ count. count ≤ length buf.new) }
     {
         let mut file = self.open_regular(name)?;
-        piece_in(&mut file, start, buf)
+        let piece = piece_in(&mut file, start, buf);
+        file.at(piece)
     }
 
     // The handle kept from the file's last change, or a new one.
-    fn handle_of(&mut self, name: &str) -> io::Result<Changed<Noted<'a, R::File>>> {
+    fn handle_of(&mut self, name: &str) -> Result<Changed<'a, R::File>, Denial> {
         if let Some(changed) = self.handles.take_kept(name) {
             return Ok(changed);
         }
@@ -261,7 +260,7 @@ impl<'a, R: Files + AllocGlobal> HostFolder<'a, R> {
         Ok(Changed { file, name: title })
     }
 
-    fn measure(&mut self, name: &str) -> io::Result<u64> {
+    fn measure(&mut self, name: &str) -> Result<u64, Denial> {
         if !self.handles.keeps_handle() {
             return Ok(self.system.stat(self.paths.path_of(name)?.as_str())?.len());
         }
@@ -269,28 +268,29 @@ impl<'a, R: Files + AllocGlobal> HostFolder<'a, R> {
         self.handles.measure(changed)
     }
 
-    fn write_behind(&mut self, name: &str, bytes: &[u8]) -> io::Result<()> {
+    fn write_behind(&mut self, name: &str, bytes: &[u8]) -> Result<(), Denial> {
         let changed = self.handle_of(name)?;
         self.handles.append(&self.paths, name, changed, bytes)
     }
 
-    fn set_len(&mut self, name: &str, len: u64) -> io::Result<()> {
+    fn set_len(&mut self, name: &str, len: u64) -> Result<(), Denial> {
         let changed = self.handle_of(name)?;
         self.handles.set_len(&self.paths, name, changed, len)
     }
 
     // The file that was changed last is flushed by the handle that changed it: the system may
     // report a fault to no other.
-    fn sync(&mut self, name: &str) -> io::Result<()> {
+    fn sync(&mut self, name: &str) -> Result<(), Denial> {
         if self.handles.sync(&self.paths, name)? {
             return Ok(());
         }
-        self.open_regular(name)?.sync_all()
+        let file = self.open_regular(name)?;
+        file.at(file.sync_all())
     }
 
     // Opens a regular file, or one that a link leads to, if the name is still there. It is refused if the name
     // stands for anything else.
-    fn open_if_there(&self, name: &str) -> io::Result<Option<Noted<'a, R::File>>> {
+    fn open_if_there(&self, name: &str) -> Result<Option<Noted<'a, R::File>>, Denial> {
         let file = match self.open_regular(name) {
             Err(fault) if fault.kind() == ErrorKind::NotFound => {
                 self.check_gone(name)?;
@@ -298,35 +298,32 @@ impl<'a, R: Files + AllocGlobal> HostFolder<'a, R> {
             }
             answer => answer?,
         };
-        if file.metadata()?.is_dir() {
-            return Err(self.paths.refuse(name, IRREGULAR));
+        if file.at(file.metadata())?.is_dir() {
+            return Err(self.paths.refusal(name, IRREGULAR));
         }
         Ok(Some(file))
     }
 
     // Flushes the bytes of such a file, and says whether the name is still there; None if it can't be opened.
-    pub(crate) fn sync_if_there(&self, name: &str) -> io::Result<Option<bool>> {
+    pub(crate) fn sync_if_there(&self, name: &str) -> Result<Option<bool>, Denial> {
         match self.open_if_there(name) {
             Ok(Some(file)) => {
-                file.sync_all()?;
+                file.at(file.sync_all())?;
                 Ok(Some(true))
             }
             Ok(None) => Ok(Some(false)),
-            Err(fault) if self.is_odd(name, &fault) => {
-                self.system.refusals.forget();
-                Ok(None)
-            }
+            Err(fault) if self.is_odd(name, &fault) => Ok(None),
             Err(fault) => Err(fault),
         }
     }
 
     // The path of what has a name and can't be opened, and why; None if it can be, or has gone.
-    pub(crate) fn obstruction(&self, name: &str) -> io::Result<Option<Vec<u8>>> {
+    pub(crate) fn obstruction(&self, name: &str) -> Result<Option<Vec<u8>>, Denial> {
         match self.open_if_there(name) {
             Ok(_) => Ok(None),
-            Err(fault) if self.is_odd(name, &fault) => match self.system.refusals.take() {
+            Err(fault) if self.is_odd(name, &fault) => match fault.into_refusal() {
                 Some(refusal) => Ok(Some(refusal.text(self.system.alloc())?)),
-                None => Err(io::Error::from(ErrorKind::OutOfMemory)),
+                None => Err(Denial::from(AllocError)),
             },
             Err(fault) => Err(fault),
         }
@@ -334,14 +331,14 @@ impl<'a, R: Files + AllocGlobal> HostFolder<'a, R> {
 
     // Whether a name can't be opened because of what it stands for, or of its rights. If it can't even be looked up,
     // that is because of the folder.
-    fn is_odd(&self, name: &str, fault: &io::Error) -> bool {
+    fn is_odd(&self, name: &str, fault: &Denial) -> bool {
         let may_be_odd = matches!(
             fault.kind(),
             ErrorKind::PermissionDenied
                 | ErrorKind::FilesystemLoop
                 | ErrorKind::NotADirectory
                 | ErrorKind::InvalidFilename
-        ) || (fault.kind() == ErrorKind::Other && fault.raw_os_error().is_none());
+        ) || fault.is_own();
         may_be_odd && self.look_up(name).is_ok()
     }
 
@@ -356,28 +353,25 @@ impl<'a, R: Files + AllocGlobal> HostFolder<'a, R> {
     }
 
     // What leads to nothing has gone, or is a link, which is refused.
-    fn check_gone(&self, name: &str) -> io::Result<()> {
+    fn check_gone(&self, name: &str) -> Result<(), Denial> {
         match self.look_up(name) {
-            Ok(found) if found.is_symlink() => Err(self.paths.refuse(name, LEADS_NOWHERE)),
+            Ok(found) if found.is_symlink() => Err(self.paths.refusal(name, LEADS_NOWHERE)),
             Err(fault) if fault.kind() != ErrorKind::NotFound => Err(fault),
-            _ => {
-                self.system.refusals.forget();
-                Ok(())
-            }
+            _ => Ok(()),
         }
     }
 
     // The folder is opened once, and again after a fault, and if its path leads to another one by now:
     // files are put there by their paths.
-    pub(crate) fn sync_names(&mut self) -> io::Result<()> {
+    pub(crate) fn sync_names(&mut self) -> Result<(), Denial> {
         let path = self.paths.folder_path()?;
         if let Some(names) = self.handles.take_names() {
             if names.is_of(&self.system.stat(path.as_str())?) {
-                return self.handles.sync_names(names, self.system.refusals);
+                return self.handles.sync_names(names);
             }
         }
         let names = Names::of(self.system.open(path.as_str())?)?;
-        self.handles.sync_names(names, self.system.refusals)
+        self.handles.sync_names(names)
     }
 }
 
@@ -391,13 +385,13 @@ impl<'a, R: Files + Clock + AllocGlobal + Clone + Drop> HostFolder<'a, R> {
     }
 
     // The names of the folder that are sought, whatever they lead to.
-    pub(crate) fn read_names(&self, sought: Sought<'_>) -> io::Result<FolderNames> {
+    pub(crate) fn read_names(&self, sought: Sought<'_>) -> Result<FolderNames, Denial> {
         list_names(self.system, self.paths.folder_path()?.as_str(), sought)
     }
 }
 
 /// Whether a file can't be given a second name although it may be given another one.
-fn has_no_links(fault: &io::Error) -> bool {
+fn has_no_links(fault: &Denial) -> bool {
     matches!(
         fault.kind(),
         ErrorKind::PermissionDenied
@@ -407,23 +401,15 @@ fn has_no_links(fault: &io::Error) -> bool {
     )
 }
 
-/// What the system answered, or a device in its place. If neither said why, what was refused before isn't
-/// the reason.
-pub(crate) fn answer_of<T>(refusals: &Refusals, answer: io::Result<T>) -> Result<T, StoreFault>
+/// A device's answer. Why it is a refusal is kept.
+pub(crate) fn answer_of<T>(refusals: &Refusals, answer: Result<T, Denial>) -> Result<T, StoreFault>
     ensures same { IfOk result (λ value. answer ≡ Ok value) }
     ensures fault { IfErr result IsDeviceFault }
 {
-    let fault = match answer {
-        Ok(value) => return Ok(value),
-        Err(fault) => fault,
-    };
-    if fault.raw_os_error().is_none() && fault.kind() != ErrorKind::Other {
-        refusals.forget();
-    }
-    if fault.kind() == ErrorKind::NotFound {
-        Err(StoreFault::Missing)
-    } else {
-        Err(StoreFault::Refused)
+    match refusals.kept(answer) {
+        Ok(value) => Ok(value),
+        Err(fault) if fault.kind() == ErrorKind::NotFound => Err(StoreFault::Missing),
+        Err(_) => Err(StoreFault::Refused),
     }
 }
 
@@ -440,11 +426,12 @@ impl<'a, R: Files + AllocGlobal> NewFile for HostNewFile<'a, R> {
     ghost sound = { λ _. ⊥ };
 
     fn write(&mut self, bytes: &[u8]) -> Result<(), StoreFault> {
-        answer_of(self.refusals, self.file.write_all(bytes))
+        let answer = self.file.write_all(bytes);
+        answer_of(self.refusals, self.file.at(answer))
     }
 
     fn flush(&mut self) -> Result<(), StoreFault> {
-        answer_of(self.refusals, self.file.sync_all())
+        answer_of(self.refusals, self.file.at(self.file.sync_all()))
     }
 }
 

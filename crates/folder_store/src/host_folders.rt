@@ -1,6 +1,6 @@
 //! The folders of a Maildir in the machine's file system.
 
-ghost use Rattle.std.specs.{Prelude.{◌≡◌, ◌<◌, ◌↔◌, IsTrue, Some}, Duration.as_nanos};
+ghost use Rattle.std.specs.{Prelude.{◌≡◌, ◌<◌, ◌↔◌, IsTrue, Ok, Some, false, true}, Duration.as_nanos};
 ghost use Rattle.folder_store.specs.MailFolders.{unknown_directories};
 
 use crate::exact_listing::ChangeTime;
@@ -12,10 +12,9 @@ use crate::process_mark::ProcessMark;
 use mail_store::{Folder, StoreFault, stem};
 use std::alloc::{AllocError, Global};
 use std::collections::BTreeSet;
-use std::io;
 use std::rt::Files;
 use std::time::{Clock, Duration};
-use system_calls::System;
+use system_calls::{Denial, System};
 
 /// For how many seconds the folders are listed again while readers change them all the time.
 const MOST_SECONDS: u64 = 4;
@@ -118,7 +117,7 @@ impl<'a, R: Files + Clock + AllocGlobal + Clone + Drop> HostFolders<'a, R> {
 
     // Flushes the files with one of these stems, all of which are sought, that both folders have at one moment. If
     // `new` changed while they were listed, a reader may have moved one past the listing: then none counts as found.
-    fn sync_pass(&self, sought: Sought<'_>, stems: &[&str]) -> io::Result<Vec<Found>> {
+    fn sync_pass(&self, sought: Sought<'_>, stems: &[&str]) -> Result<Vec<Found>, Denial> {
         let in_new = self.new_folder.host.read_names(sought)?;
         let in_cur = self.cur_folder.host.read_names(sought)?;
         let now = self.new_folder.host.look_at_folder()?;
@@ -134,7 +133,7 @@ impl<'a, R: Files + Clock + AllocGlobal + Clone + Drop> HostFolders<'a, R> {
         in_new: Vec<String>,
         in_cur: Vec<String>,
         stems: &[&str],
-    ) -> io::Result<Vec<Found>> {
+    ) -> Result<Vec<Found>, Denial> {
         let mut found = Vec::new(self.system.alloc());
         let stems = set_of(self.system.alloc(), stems)?;
         sync_named(&self.new_folder.host, in_new, &stems, &mut found)?;
@@ -142,9 +141,11 @@ impl<'a, R: Files + Clock + AllocGlobal + Clone + Drop> HostFolders<'a, R> {
         Ok(found)
     }
 
-    // Flushes the files that have one of these stems. False if one of the stems has none, or readers move
-    // its files all the time.
-    fn sync_all_of(&self, stems: &[String]) -> io::Result<bool> {
+    // Flushes the files that have one of these stems. False, only if `may_miss`, if one of the stems has none, or
+    // readers move its files all the time.
+    fn sync_all_of(&self, stems: &[String], may_miss: bool) -> Result<bool, Denial>
+        ensures { result ≡ Ok false → may_miss ≡ true }
+    {
         let mut left = texts_of(self.system.alloc(), stems)?;
         for _ in 0..MOST_PASSES {
             let found = self.sync_pass(Sought::Stems(stems), &left)?;
@@ -153,11 +154,44 @@ impl<'a, R: Files + Clock + AllocGlobal + Clone + Drop> HostFolders<'a, R> {
                 return Ok(true);
             }
         }
-        Ok(false)
+        if may_miss {
+            return Ok(false);
+        }
+        Err(
+            self.new_folder
+                .host
+                .folder_refusal("files to be flushed go away all the time"),
+        )
+    }
+
+    // Refused if the path of a folder leads to something else.
+    fn check_folder(&self, folder: Folder) -> Result<(), Denial> {
+        let host = &self.folder(folder).host;
+        if host.look_at_folder()?.is_dir() {
+            return Ok(());
+        }
+        Err(host.folder_refusal("not a folder"))
+    }
+
+    // Whether a folder has the time of change of its last listing. Refused if it may not be listed again.
+    fn check_rest(&mut self, folder: Folder, times: u32) -> Result<bool, Denial> {
+        let listed = self.folder(folder);
+        let found = listed.host.look_at_folder()?;
+        if has_rested(listed.change, ChangeTime::of(&found)) {
+            return Ok(true);
+        }
+        if self.may_list_again(times) {
+            return Ok(false);
+        }
+        Err(
+            self.folder(folder)
+                .host
+                .folder_refusal("changes all the time"),
+        )
     }
 
     // What these names lead to. The path of each that is odd is noted, and why.
-    fn look_up(&mut self, in_new: Vec<String>, in_cur: Vec<String>) -> io::Result<FoundNames> {
+    fn look_up(&mut self, in_new: Vec<String>, in_cur: Vec<String>) -> Result<FoundNames, Denial> {
         self.obstructions.clear();
         let mut found = FoundNames {
             files: Vec::new(self.system.alloc()),
@@ -174,7 +208,7 @@ impl<'a, R: Files + Clock + AllocGlobal + Clone + Drop> HostFolders<'a, R> {
         folder: Folder,
         names: Vec<String>,
         found: &mut FoundNames,
-    ) -> io::Result<()> {
+    ) -> Result<(), Denial> {
         for name in names {
             let obstruction = self.folder_mut(folder).host.obstruction(name.as_str())?;
             match obstruction {
@@ -199,6 +233,13 @@ impl<'a, R: Files + Clock + AllocGlobal + Clone + Drop> HostFolders<'a, R> {
             self.start = now;
         }
         may_list_both(now.saturating_sub(self.start))
+    }
+
+    fn folder(&self, folder: Folder) -> &ListedFolder<'a, R> {
+        match folder {
+            Folder::New => &self.new_folder,
+            Folder::Cur => &self.cur_folder,
+        }
     }
 
     fn folder_mut(&mut self, folder: Folder) -> &mut ListedFolder<'a, R> {
@@ -245,7 +286,7 @@ fn sync_named<R: Files + AllocGlobal>(
     names: Vec<String>,
     stems: &BTreeSet<&str>,
     found: &mut Vec<Found>,
-) -> io::Result<()> {
+) -> Result<(), Denial> {
     for name in names {
         if stems.contains(stem(name.as_str())) {
             if let Some(is_flushed) = host.sync_if_there(name.as_str())? {
@@ -265,17 +306,7 @@ impl<'a, R: Files + Clock + AllocGlobal + Clone + Drop> MailFolders for HostFold
     ghost sound = { λ _. ⊥ };
 
     fn check(&mut self, folder: Folder) -> Result<(), StoreFault> {
-        match answer_of(
-            self.system.refusals,
-            self.folder_mut(folder).host.look_at_folder(),
-        ) {
-            Ok(found) if found.is_dir() => Ok(()),
-            Ok(_) => {
-                self.folder_mut(folder).host.refuse_folder("not a folder");
-                Err(StoreFault::Refused)
-            }
-            Err(fault) => Err(fault),
-        }
+        answer_of(self.system.refusals, self.check_folder(folder))
     }
 
     fn list(&mut self, folder: Folder, sought: Sought<'_>) -> Result<Vec<String>, StoreFault> {
@@ -300,32 +331,13 @@ impl<'a, R: Files + Clock + AllocGlobal + Clone + Drop> MailFolders for HostFold
     // The time of change that a listing gives had rested for a step of the clock, so that each later
     // change gives the folder another one.
     fn rests(&mut self, folder: Folder, times: u32) -> Result<bool, StoreFault> {
-        let refusals = self.system.refusals;
-        let listed = self.folder_mut(folder);
-        let found = answer_of(refusals, listed.host.look_at_folder())?;
-        if has_rested(listed.change, ChangeTime::of(&found)) {
-            return Ok(true);
-        }
-        if self.may_list_again(times) {
-            return Ok(false);
-        }
-        self.folder_mut(folder)
-            .host
-            .refuse_folder("changes all the time");
-        Err(StoreFault::Refused)
+        let answer = self.check_rest(folder, times);
+        answer_of(self.system.refusals, answer)
     }
 
     // A file that a reader moves meanwhile is looked up again.
     fn flush_files(&mut self, stems: &[String], may_miss: bool) -> Result<bool, StoreFault> {
-        let answer = self.sync_all_of(stems);
-        let are_flushed = answer_of(self.system.refusals, answer)?;
-        if are_flushed || may_miss {
-            return Ok(are_flushed);
-        }
-        self.new_folder
-            .host
-            .refuse_folder("files to be flushed go away all the time");
-        Err(StoreFault::Refused)
+        answer_of(self.system.refusals, self.sync_all_of(stems, may_miss))
     }
 
     fn make(&mut self, name: &str) -> Result<HostNewFile<'a, R>, StoreFault> {
@@ -334,11 +346,10 @@ impl<'a, R: Files + Clock + AllocGlobal + Clone + Drop> MailFolders for HostFold
 
     fn put(&mut self, file: HostNewFile<'a, R>, name: &str) -> Result<(), StoreFault> {
         let answer = self.new_folder.host.put_new(file, name);
-        if answer_of(self.system.refusals, answer)? {
-            return Ok(());
+        if let Err(denial) = &answer {
+            self.is_name_taken = denial.is_own() && self.new_folder.host.is_taken_by_other(name);
         }
-        self.is_name_taken = self.new_folder.host.refuse_taken(name);
-        Err(StoreFault::Refused)
+        answer_of(self.system.refusals, answer)
     }
 
     fn discard(&mut self, file: HostNewFile<'a, R>) {

@@ -2,15 +2,13 @@
 
 use crate::process_mark::ProcessMark;
 use std::alloc::Global;
-use std::io;
 use std::path::PathBuf;
-use system_calls::Refusals;
+use system_calls::Denial;
 
-/// Where a folder and its files are, and what notes why they can't be used.
+/// Where a folder and its files are.
 #[derive(Clone, Copy)]
 pub struct HostPaths<'a> {
     pub alloc: Global,
-    pub refusals: &'a Refusals,
     /// The path that those of the next two folders begin with.
     pub base: &'a str,
     /// The folder, empty if it is that of the path.
@@ -24,7 +22,7 @@ pub struct HostPaths<'a> {
 
 impl<'a> HostPaths<'a> {
     // The path of a folder, made with room for so many octets more.
-    fn path_in(&self, folder: &str, more: usize) -> io::Result<PathBuf> {
+    fn path_in(&self, folder: &str, more: usize) -> Result<PathBuf, Denial> {
         let room = self
             .base
             .len()
@@ -39,29 +37,29 @@ impl<'a> HostPaths<'a> {
         Ok(path)
     }
 
-    fn file_path(&self, folder: &str, name: &str) -> io::Result<String> {
+    fn file_path(&self, folder: &str, name: &str) -> Result<String, Denial> {
         let mut path = self.path_in(folder, name.len())?;
         path.push(name)?;
         Ok(path.into_string())
     }
 
     /// The path of the folder.
-    pub fn folder_path(&self) -> io::Result<String> {
+    pub fn folder_path(&self) -> Result<String, Denial> {
         Ok(self.path_in(self.folder, 0)?.into_string())
     }
 
     /// The path of the folder in which files are made.
-    pub fn scratch_path(&self) -> io::Result<String> {
+    pub fn scratch_path(&self) -> Result<String, Denial> {
         Ok(self.path_in(self.scratch, 0)?.into_string())
     }
 
     /// The path of a file.
-    pub fn path_of(&self, name: &str) -> io::Result<String> {
+    pub fn path_of(&self, name: &str) -> Result<String, Denial> {
         self.file_path(self.folder, name)
     }
 
     /// The path of a file that is made to be put under a name.
-    pub fn made_path(&self, name: &str) -> io::Result<String> {
+    pub fn made_path(&self, name: &str) -> Result<String, Denial> {
         let mark = self.mark.marked(self.alloc, self.suffix)?;
         let room = name.len().saturating_add(mark.len());
         let mut path = self.path_in(self.scratch, room)?;
@@ -71,21 +69,19 @@ impl<'a> HostPaths<'a> {
         Ok(path)
     }
 
-    /// An error for a file that isn't as it has to be, with the reason.
-    pub fn refuse(&self, name: &str, words: &str) -> io::Error {
+    /// Why a file isn't used.
+    pub fn refusal(&self, name: &str, words: &str) -> Denial {
         match self.path_of(name) {
-            Ok(path) => self.refusals.refuse(path.as_str(), words),
-            Err(error) => error,
+            Ok(path) => Denial::because(self.alloc, path.as_str(), words),
+            Err(denial) => denial,
         }
     }
 
-    /// Notes why the folder isn't used.
-    pub fn refuse_folder(&self, words: &str) {
+    /// Why the folder isn't used.
+    pub fn folder_refusal(&self, words: &str) -> Denial {
         match self.folder_path() {
-            Ok(path) => {
-                let _ = self.refusals.refuse(path.as_str(), words);
-            }
-            Err(_) => self.refusals.forget(),
+            Ok(path) => Denial::because(self.alloc, path.as_str(), words),
+            Err(denial) => denial,
         }
     }
 }

@@ -8,7 +8,7 @@ use std::os::unix::fs::OpenOptionsExt;
 use std::rt::Files;
 use std::time::{Clock, SystemTime};
 use std::{fs, io};
-use system_calls::{Noted, Refusals, System};
+use system_calls::{Denial, Noted, System};
 
 /// How many seconds nothing is written to a file before it counts as left behind. A run at work waits
 /// for the server for three minutes at most.
@@ -18,7 +18,7 @@ const LEFT_BEHIND_SECONDS: u64 = 3_600;
 pub fn make_file<'a, R: Files + AllocGlobal>(
     system: &System<'a, R>,
     path: &str,
-) -> io::Result<Noted<'a, R::File>> {
+) -> Result<Noted<'a, R::File>, Denial> {
     system.open_with(
         OpenOptions::new().write(true).create_new(true).mode(0o600),
         path,
@@ -27,18 +27,17 @@ pub fn make_file<'a, R: Files + AllocGlobal>(
 
 /// Flushes the names of a folder to the disk. False if the system flushes no folders, which is no
 /// fault.
-pub fn flush_folder<F: OpenFile>(folder: &F, refusals: &Refusals) -> io::Result<bool> {
+pub fn flush_folder<F: OpenFile>(folder: &Noted<'_, F>) -> Result<bool, Denial> {
     match folder.sync_all() {
-        Ok(()) => Ok(true),
         Err(fault)
             if matches!(
                 fault.kind(),
                 ErrorKind::InvalidInput | ErrorKind::Unsupported
-            ) => {
-            refusals.forget();
-            Ok(false)
+            ) => Ok(false),
+        answer => {
+            folder.at(answer)?;
+            Ok(true)
         }
-        Err(fault) => Err(fault),
     }
 }
 
@@ -74,15 +73,14 @@ fn is_left_behind(file: &Metadata, now: SystemTime) -> bool {
 }
 
 /// An entry of a folder that is read. None if its name isn't UTF-8.
-pub fn entry_in<T>(
-    refusals: &Refusals,
+fn entry_in<T, R: AllocGlobal>(
+    system: &System<'_, R>,
     folder: &str,
     entry: io::Result<T>,
-) -> io::Result<Option<T>> {
+) -> Result<Option<T>, Denial> {
     match entry {
-        Ok(entry) => Ok(Some(entry)),
         Err(fault) if fault.kind() == ErrorKind::InvalidFilename => Ok(None),
-        Err(fault) => refusals.noted("read", folder, Err(fault)),
+        entry => Ok(Some(system.asked("read", folder, entry)?)),
     }
 }
 
@@ -93,11 +91,11 @@ pub fn sweep<R: Files + Clock + AllocGlobal + Clone + Drop>(
     system: &System<'_, R>,
     folder: &str,
     front: &str,
-) -> io::Result<()> {
-    let now = SystemTime::now(system.rt)?;
+) -> Result<(), Denial> {
+    let now = system.asked("clock_gettime", folder, SystemTime::now(system.rt))?;
     let entries = fs::read_dir(system.rt, folder);
-    for entry in system.refusals.noted("open", folder, entries)? {
-        let Some(entry) = entry_in(system.refusals, folder, entry)? else {
+    for entry in system.asked("open", folder, entries)? {
+        let Some(entry) = entry_in(system, folder, entry)? else {
             continue;
         };
         let name = entry.file_name();

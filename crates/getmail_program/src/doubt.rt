@@ -32,7 +32,7 @@ fn doubt_of_maildir<R: Files + AllocGlobal>(system: &System<'_, R>, path: &str) 
     let Ok(tmp) = joined(system.alloc(), path, TMP) else {
         return Some(Fault::NoMemory);
     };
-    match system.stat(tmp.as_str()) {
+    match system.refusals.kept(system.stat(tmp.as_str())) {
         Ok(metadata) if metadata.is_dir() => None,
         Ok(_) => Some(fault_of(&system.refusals.refuse(tmp.as_str(), "not a folder"))),
         Err(error) => Some(fault_of(&error)),

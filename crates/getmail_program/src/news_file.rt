@@ -13,7 +13,7 @@ fn octets_at<R: Files + AllocGlobal>(
     system: &System<'_, R>,
     path: &str,
 ) -> io::Result<Option<Vec<u8>>> {
-    if !system.lstat(path)?.is_file() {
+    if !system.refusals.kept(system.lstat(path))?.is_file() {
         return Ok(None);
     }
     Ok(Some(system.read(path, MOST_OCTETS)?))

@@ -38,7 +38,9 @@ fn open_lock<R: Files<File = File> + AllocGlobal>(
         Ok(found) if !found.is_file() => return Err(
             system.refusals.refuse(path, "not a regular file"),
         ),
-        Err(error) if error.kind() != ErrorKind::NotFound => return Err(error),
+        Err(denial) if denial.kind() != ErrorKind::NotFound => {
+            return system.refusals.kept(Err(denial));
+        }
         _ => {}
     }
     let file = OpenOptions::new()

@@ -1,5 +1,5 @@
-//! The calls of the file system, for devices: those that are refused are shown in a trace, line by line, and the
-//! last of them is kept to tell the reason of a fault.
+//! The calls of the file system, for devices: those that are refused are shown in a trace, line by line. An answer
+//! that is a refusal has its path; a device keeps what was refused to it last, to tell the reason of a fault.
 #![tactic(auto)]
 
 mod line;
@@ -10,6 +10,6 @@ mod system;
 
 pub use line::{line_text, shown, write_line};
 pub use noted::Noted;
-pub use refusal::refusal_text;
-pub use refusals::{Refusal, Refusals};
+pub use refusal::{Denial, Refusal, refusal_text};
+pub use refusals::Refusals;
 pub use system::System;

@@ -1,43 +1,73 @@
-//! An open file, folder or connection whose refused calls are noted.
-ghost use Rattle.std.specs.Prelude.{◌≡◌};
+//! An open file, folder or connection whose refused calls are shown.
+ghost use Rattle.std.specs.Prelude.{◌≡◌, IfOk, Ok};
 
+use crate::refusal::Denial;
 use crate::refusals::Refusals;
 use std::alloc::Global;
 use std::fs::{Metadata, OpenFile};
 use std::io::{self, Read, Seek, SeekFrom, Write};
 
-/// An open file, folder or connection that passes each call on, and notes those that are refused.
+/// An open file, folder or connection that passes each call on, and shows those that are refused.
 #[derive(Drop)]
 pub struct Noted<'a, S> {
     inner: S,
+    alloc: Global,
     path: Option<String>,
     refusals: &'a Refusals,
+    /// Whether what is refused is kept too.
+    keeps: bool,
 }
 
 impl<'a, S> Noted<'a, S> {
-    /// What is open at this path, or the connection of this name. Without memory for that, nothing is noted.
+    /// What is open at this path, or the connection of this name; what is refused to it is kept too. Without memory
+    /// for the path, none is known.
     pub fn new(alloc: Global, inner: S, path: &str, refusals: &'a Refusals) -> Noted<'a, S>
         ensures { result.inner ≡ inner }
     {
         Noted {
+            keeps: true,
+            ..Noted::shown(alloc, inner, path, refusals)
+        }
+    }
+
+    /// The same, but what is refused to it is only shown.
+    pub fn shown(alloc: Global, inner: S, path: &str, refusals: &'a Refusals) -> Noted<'a, S>
+        ensures { result.inner ≡ inner }
+    {
+        Noted {
             inner,
+            alloc,
             path: String::from_str(alloc, path).ok(),
             refusals,
+            keeps: false,
+        }
+    }
+
+    /// The answer of a call of this, with its path.
+    pub fn at<T>(&self, answer: io::Result<T>) -> Result<T, Denial>
+        ensures { IfOk result (λ value. answer ≡ Ok value) }
+    {
+        match answer {
+            Ok(value) => Ok(value),
+            Err(error) => Err(match &self.path {
+                Some(path) => Denial::of(self.alloc, path.as_str(), error),
+                None => Denial { error, path: None },
+            }),
         }
     }
 
     fn noted<T>(&self, call: &str, answer: io::Result<T>) -> io::Result<T>
         ensures { result ≡ answer }
     {
-        match &self.path {
-            Some(path) => self.refusals.noted(call, path.as_str(), answer),
-            None => {
-                if answer.is_err() {
-                    self.refusals.forget();
-                }
-                answer
+        if let Err(error) = &answer {
+            if let Some(path) = &self.path {
+                self.refusals.show(call, path.as_str(), error);
+            }
+            if self.keeps {
+                let _ = self.refusals.kept(self.at(Err::<(), io::Error>(*error)));
             }
         }
+        answer
     }
 }
 

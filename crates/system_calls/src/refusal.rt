@@ -1,10 +1,98 @@
-//! The lines of refused calls of the system.
+//! Why a call isn't done, and the line of a call that the system refused.
 ghost use Rattle.std.specs.{Prelude.{◌≡◌, ◌++◌, IfOk, OnOk, codes}, String.string_bytes};
 ghost use Rattle.system_calls.specs.Line.{TellsRefusal};
 
-use crate::line::write_line;
-use std::alloc::{AllocError, Global};
-use std::io::{self, Write};
+use crate::line::{shown, write_line};
+use std::alloc::{AllocError, AllocFailed, Global};
+use std::io::{self, ErrorKind, Write};
+
+/// What was refused: the file, folder or address, and the reason.
+#[derive(Drop)]
+pub struct Refusal {
+    pub path: String,
+    pub error: io::Error,
+}
+
+/// Why a call isn't done: what was refused, or that memory ran out.
+#[derive(Drop)]
+pub struct Denial {
+    pub(crate) error: io::Error,
+    /// What it is about. None if memory ran out, which is no refusal.
+    pub(crate) path: Option<String>,
+}
+
+impl Refusal {
+    /// The path and the reason, as a trace shows them.
+    pub fn text(&self, alloc: Global) -> Result<Vec<u8>, AllocError> {
+        let Refusal { path, error } = self;
+        let words = format!(in alloc; "{error}")?;
+        let reason = reason(words.as_str());
+        let text = format!(in alloc; "{path}: {reason}")?;
+        shown(alloc, text.as_bytes())
+    }
+}
+
+impl Denial {
+    /// An error about a path.
+    pub fn of(alloc: Global, path: &str, error: io::Error) -> Denial
+        ensures { result.error ≡ error }
+    {
+        let path = if is_want_of_memory(&error) {
+            None
+        } else {
+            String::from_str(alloc, path).ok()
+        };
+        Denial { error, path }
+    }
+
+    /// A refusal of what the system would grant, with the reason in words.
+    pub fn because(alloc: Global, path: &str, words: &str) -> Denial {
+        Denial::of(alloc, path, io::Error::other(words))
+    }
+
+    /// What kind of error it is.
+    pub fn kind(&self) -> ErrorKind {
+        self.error.kind()
+    }
+
+    /// Whether it has words of its own in place of the system's.
+    pub fn is_own(&self) -> bool {
+        self.error.kind() == ErrorKind::Other && self.error.raw_os_error().is_none()
+    }
+
+    /// The error.
+    pub fn error(&self) -> io::Error
+        ensures { result ≡ self.now.error }
+    {
+        self.error
+    }
+
+    /// What was refused, if that is known.
+    pub fn into_refusal(self) -> Option<Refusal> {
+        let Denial { error, path } = self;
+        path.map(|path| Refusal { path, error })
+    }
+}
+
+impl From<AllocError> for Denial {
+    fn from(_error: AllocError) -> Denial {
+        Denial {
+            error: io::Error::from(ErrorKind::OutOfMemory),
+            path: None,
+        }
+    }
+}
+
+impl<T: Drop> From<AllocFailed<T>> for Denial {
+    fn from(_error: AllocFailed<T>) -> Denial {
+        Denial::from(AllocError)
+    }
+}
+
+/// Whether memory ran out in this process: the system didn't refuse anything.
+pub(crate) fn is_want_of_memory(error: &io::Error) -> bool {
+    error.kind() == ErrorKind::OutOfMemory && error.raw_os_error().is_none()
+}
 
 /// The text about a refused call: its name, what it was asked for, and the reason.
 pub fn refusal_text(
@@ -20,7 +108,7 @@ pub fn refusal_text(
 }
 
 /// The system's words in the text of an error, without its number.
-pub fn reason(text: &str) -> &str {
+fn reason(text: &str) -> &str {
     match text.rsplit_once(" (os error ") {
         Some((reason, _)) => reason,
         None => text,
@@ -29,7 +117,7 @@ pub fn reason(text: &str) -> &str {
 
 /// Writes the line of a refused call: `trace: `, then the call's name, what it was asked for, and the
 /// reason.
-pub fn tell_refusal<E: Write>(
+pub(crate) fn tell_refusal<E: Write>(
     alloc: Global,
     err: &mut E,
     call: &str,

@@ -1,33 +1,14 @@
-//! The calls that the system refuses to a device or a connection.
-ghost use Rattle.std.specs.Prelude.{◌≡◌};
+//! What is refused to a device or a connection.
+ghost use Rattle.std.specs.Prelude.{◌≡◌, IfOk, Ok};
 
-use crate::line::shown;
-use crate::refusal::{reason, tell_refusal};
-use std::alloc::{AllocError, Global};
+use crate::refusal::{Denial, Refusal, is_want_of_memory, tell_refusal};
+use std::alloc::Global;
 use std::cell::Cell;
 use std::io::{self, ErrorKind, Stderr};
 
-/// What was refused: the file, folder or address, and the reason.
-#[derive(Drop)]
-pub struct Refusal {
-    pub path: String,
-    pub error: io::Error,
-}
-
-impl Refusal {
-    /// The path and the reason, as a trace shows them.
-    pub fn text(&self, alloc: Global) -> Result<Vec<u8>, AllocError> {
-        let Refusal { path, error } = self;
-        let words = format!(in alloc; "{error}")?;
-        let reason = reason(words.as_str());
-        let text = format!(in alloc; "{path}: {reason}")?;
-        shown(alloc, text.as_bytes())
-    }
-}
-
-/// Keeps the last call that was refused to a device, until it is asked for. Without memory none is kept.
-/// If there is a trace, it gets a line for each refused call at once: `trace: `, the name of the system's
-/// call, the path, and the system's reason. A line that can't be written changes nothing.
+/// What was refused last to one device or connection, until it is asked for; none if memory ran out. If there is a
+/// trace, it gets a line for each call that the system refuses, at once: `trace: `, the name of the call, the path,
+/// and the system's reason. A line that can't be written changes nothing.
 #[derive(Drop)]
 pub struct Refusals {
     alloc: Global,
@@ -50,46 +31,59 @@ impl Refusals {
         self.trace
     }
 
-    /// The answer of a call of the system, which is noted if it is a refusal.
+    /// Shows a call that the system refused.
+    pub(crate) fn show(&self, call: &str, path: &str, error: &io::Error) {
+        if let (Some(mut trace), false) = (self.trace, is_want_of_memory(error)) {
+            let _ = tell_refusal(self.alloc, &mut trace, call, path, error);
+        }
+    }
+
+    /// The answer of a call of the system, which is shown if it is a refusal.
+    pub fn asked<T>(&self, call: &str, path: &str, answer: io::Result<T>) -> Result<T, Denial>
+        ensures { IfOk result (λ value. answer ≡ Ok value) }
+    {
+        match answer {
+            Ok(value) => Ok(value),
+            Err(error) => {
+                self.show(call, path, &error);
+                Err(Denial::of(self.alloc, path, error))
+            }
+        }
+    }
+
+    /// The answer of a device's call. Why it was refused is kept.
+    pub fn kept<T>(&self, answer: Result<T, Denial>) -> io::Result<T>
+        ensures { IfOk result (λ value. answer ≡ Ok value) }
+    {
+        match answer {
+            Ok(value) => Ok(value),
+            Err(denial) => {
+                let error = denial.error();
+                self.last.set(denial.into_refusal());
+                Err(error)
+            }
+        }
+    }
+
+    /// The answer of a call of the system that is the device's own: shown and kept, if it is a refusal.
     pub fn noted<T>(&self, call: &str, path: &str, answer: io::Result<T>) -> io::Result<T>
         ensures { result ≡ answer }
     {
         if let Err(error) = &answer {
-            self.note(call, path, *error);
+            let _ = self.kept(self.asked(call, path, Err::<(), io::Error>(*error)));
         }
         answer
     }
 
-    /// Shows a refused call, and keeps it. Want of memory is no refusal of the system.
-    fn note(&self, call: &str, path: &str, error: io::Error) {
-        if error.kind() == ErrorKind::OutOfMemory && error.raw_os_error().is_none() {
-            return self.forget();
-        }
-        if let Some(mut trace) = self.trace {
-            let _ = tell_refusal(self.alloc, &mut trace, call, path, &error);
-        }
-        self.keep(path, error);
-    }
-
-    fn keep(&self, path: &str, error: io::Error) {
-        let path = String::from_str(self.alloc, path).ok();
-        self.last.set(path.map(|path| Refusal { path, error }));
-    }
-
-    /// An error for something that the system would grant, with the reason in words. It is kept, but isn't in
-    /// the trace.
+    /// An error for something that the system would grant, with the reason in words. It is kept.
     pub fn refuse(&self, path: &str, words: &str) -> io::Error {
-        let error = io::Error::other(words);
-        self.keep(path, error);
+        let denial = Denial::because(self.alloc, path, words);
+        let error = denial.error();
+        self.last.set(denial.into_refusal());
         error
     }
 
-    /// What was refused last is the reason of nothing more.
-    pub fn forget(&self) {
-        self.last.set(None);
-    }
-
-    /// The error of what was refused last, which stays. If it wasn't kept, memory ran out.
+    /// The error of what was refused last, which stays. If it isn't known, memory ran out.
     pub fn error(&self) -> io::Error {
         let last = self.last.take();
         let error = match &last {

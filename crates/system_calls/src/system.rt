@@ -1,7 +1,8 @@
-//! The machine's file system, whose refused calls are noted.
-ghost use Rattle.std.specs.Prelude.{◌≡◌};
+//! The machine's file system, whose refused calls are shown.
+ghost use Rattle.std.specs.Prelude.{◌≡◌, IfOk, Ok};
 
 use crate::noted::Noted;
+use crate::refusal::Denial;
 use crate::refusals::Refusals;
 use std::alloc::Global;
 use std::fs;
@@ -9,7 +10,7 @@ use std::fs::{Metadata, OpenOptions};
 use std::io::{self, ErrorKind};
 use std::rt::Files;
 
-/// The machine's file system, as a device asks it, and where the calls that it refuses are noted.
+/// The machine's file system, as one device asks it, and what is refused to that device.
 #[derive(Drop)]
 pub struct System<'a, R> {
     pub rt: &'a R,
@@ -26,65 +27,76 @@ impl<'a, R: AllocGlobal> System<'a, R> {
     pub fn alloc(&self) -> Global {
         self.rt.alloc()
     }
+
+    /// The answer of a call of the system, which is shown if it is a refusal.
+    pub fn asked<T>(&self, call: &str, path: &str, answer: io::Result<T>) -> Result<T, Denial>
+        ensures { IfOk result (λ value. answer ≡ Ok value) }
+    {
+        self.refusals.asked(call, path, answer)
+    }
 }
 
 impl<'a, R: Files + AllocGlobal> System<'a, R> {
     /// The metadata of what a path leads to.
-    pub fn stat(&self, path: &str) -> io::Result<Metadata> {
-        self.refusals
-            .noted("stat", path, fs::metadata(self.rt, path))
+    pub fn stat(&self, path: &str) -> Result<Metadata, Denial> {
+        self.asked("stat", path, fs::metadata(self.rt, path))
     }
 
-    /// The metadata of what a path names. That there is nothing isn't noted: the programs ask whether a name
+    /// The metadata of what a path names. That there is nothing isn't shown: the programs ask whether a name
     /// is free.
-    pub fn lstat(&self, path: &str) -> io::Result<Metadata> {
+    pub fn lstat(&self, path: &str) -> Result<Metadata, Denial> {
         match fs::symlink_metadata(self.rt, path) {
-            Err(error) if error.kind() == ErrorKind::NotFound => Err(error),
-            answer => self.refusals.noted("lstat", path, answer),
+            Err(error) if error.kind() == ErrorKind::NotFound => {
+                Err(Denial::of(self.alloc(), path, error))
+            }
+            answer => self.asked("lstat", path, answer),
         }
     }
 
     /// Opens a file or a folder to read it.
-    pub fn open(&self, path: &str) -> io::Result<Noted<'a, R::File>> {
+    pub fn open(&self, path: &str) -> Result<Noted<'a, R::File>, Denial> {
         self.opened(path, fs::open(self.rt, path))
     }
 
     /// Opens a file in another way.
-    pub fn open_with(&self, how: &OpenOptions, path: &str) -> io::Result<Noted<'a, R::File>> {
+    pub fn open_with(&self, how: &OpenOptions, path: &str) -> Result<Noted<'a, R::File>, Denial> {
         self.opened(path, how.open(self.rt, path))
     }
 
-    fn opened(&self, path: &str, file: io::Result<R::File>) -> io::Result<Noted<'a, R::File>> {
-        let file = self.refusals.noted("open", path, file)?;
-        Ok(Noted::new(self.rt.alloc(), file, path, self.refusals))
+    fn opened(&self, path: &str, file: io::Result<R::File>) -> Result<Noted<'a, R::File>, Denial> {
+        let file = self.asked("open", path, file)?;
+        Ok(Noted::shown(self.alloc(), file, path, self.refusals))
     }
 
     /// Gives a file another name.
-    pub fn rename(&self, from: &str, to: &str) -> io::Result<()> {
+    pub fn rename(&self, from: &str, to: &str) -> Result<(), Denial> {
         self.between("rename", from, to, fs::rename(self.rt, from, to))
     }
 
     /// Gives a file a second name. Fails if something has that.
-    pub fn link(&self, from: &str, to: &str) -> io::Result<()> {
+    pub fn link(&self, from: &str, to: &str) -> Result<(), Denial> {
         self.between("link", from, to, fs::hard_link(self.rt, from, to))
     }
 
     // The answer of a call with two paths.
-    fn between(&self, call: &str, from: &str, to: &str, answer: io::Result<()>) -> io::Result<()>
-        ensures { result ≡ answer }
+    fn between(
+        &self,
+        call: &str,
+        from: &str,
+        to: &str,
+        answer: io::Result<()>,
+    ) -> Result<(), Denial>
+        ensures { IfOk result (λ value. answer ≡ Ok value) }
     {
-        if answer.is_err() {
-            if let Ok(paths) = format!(in self.rt.alloc(); "{from} to {to}") {
-                return self.refusals.noted(call, paths.as_str(), answer);
-            }
-            self.refusals.forget();
+        if answer.is_ok() {
+            return Ok(());
         }
-        answer
+        let paths = format!(in self.alloc(); "{from} to {to}")?;
+        self.asked(call, paths.as_str(), answer)
     }
 
     /// Removes a file.
-    pub fn unlink(&self, path: &str) -> io::Result<()> {
-        self.refusals
-            .noted("unlink", path, fs::remove_file(self.rt, path))
+    pub fn unlink(&self, path: &str) -> Result<(), Denial> {
+        self.asked("unlink", path, fs::remove_file(self.rt, path))
     }
 }

@@ -73,9 +73,9 @@ fn tell_kept(rt: &HostRuntime, refusals: &Refusals) {
 fn rename(rt: &HostRuntime) {
     let refusals = Refusals::new(rt.alloc(), None);
     let system = System::new(rt, &refusals);
-    let _ = system.stat("older");
+    let _ = refusals.kept(system.stat("older"));
     begin(rt);
-    let _ = system.rename("none", "other");
+    let _ = refusals.kept(system.rename("none", "other"));
     end(rt);
     tell_kept(rt, &refusals);
 }
@@ -90,11 +90,16 @@ fn rename_row(rt: HostRuntime) {
 fn read(rt: &HostRuntime) {
     let refusals = Refusals::new(rt.alloc(), None);
     let system = System::new(rt, &refusals);
-    let _ = system.stat("older");
+    let _ = refusals.kept(system.stat("older"));
     begin(rt);
-    if let Ok(mut folder) = system.open(".") {
-        let _ = folder.read(&mut [0; 4]);
-    }
+    let answer = match system.open(".") {
+        Ok(mut folder) => {
+            let answer = folder.read(&mut [0; 4]);
+            folder.at(answer)
+        }
+        Err(denial) => Err(denial),
+    };
+    let _ = refusals.kept(answer);
     end(rt);
     tell_kept(rt, &refusals);
 }
