@@ -631,7 +631,7 @@ class Readme(Copied):
                 shown = self.run_lines(lines, folder, home, programs_folder, EDITOR=edits)
                 for thread in threads:
                     thread.join(programs.SECONDS)
-                self.assertIn("2 of 2 messages would be fetched, 0 deleted\n", shown)
+                self.assertIn("2 of 2 messages (0.0 kB) would be fetched, 0 deleted\n", shown)
                 self.assertEqual((home / "started").read_text(), told.format(home=home))
                 self.check_home(home)
                 self.check_cron(home, tunnel is without, programs_folder)

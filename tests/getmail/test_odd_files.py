@@ -170,7 +170,7 @@ class OddFiles(unittest.TestCase):
         preview = self.run_getmail("--pretend", "-d")
         self.assertEqual((preview.status, preview.err), (0, self.told(path, IRREGULAR)))
         self.assertTrue(preview.out.startswith(front + b"msg 1/3 (" + size + b") obstructed\nmsg 2/3 ("))
-        self.assertTrue(preview.out.endswith(b"1 of 3 messages would be fetched, 1 deleted\n"))
+        self.assertTrue(preview.out.endswith(b"1 of 3 messages (0.0 kB) would be fetched, 1 deleted\n"))
         left_out = self.told("left out", "1 obstructed")
         for words, err, reason in (((), b"", b""), (("--why",), left_out, b": obstructed")):
             report = self.run_getmail("-v", "-v", *words)

@@ -21,15 +21,35 @@ def day_of(second):
     return datetime.fromtimestamp(second, timezone.utc).strftime("%Y-%m-%d")
 
 
+def size_told(octets):
+    """A size as the last line has it: kilobytes, from a million octets on megabytes, below ten with a tenth."""
+    unit, name = (1_000_000, "MB") if octets >= 1_000_000 else (1_000, "kB")
+    whole, tenth = octets // unit, octets * 10 // unit % 10
+    return f" ({whole}{f'.{tenth}' if whole < 10 else ''} {name})" if octets else ""
+
+
 def record_of(*rows):
     return b"getmail-seen 2\n" + b"".join(b"%s %d %d\n" % row for row in rows)
+
+
+class SizedServer(Server):
+    """A server whose LIST has the `sizes` that it is given."""
+
+    def list_sizes(self, sizes):
+        self.sizes = sizes
+        self.messages = [(b"%d" % number, b"") for number in range(len(sizes))]
+
+    def _answer(self, command):
+        if command == b"LIST":
+            return self._rows(lambda number, uid, text: b"%d %d\r\n" % (number, self.sizes[number - 1]))
+        return super()._answer(command)
 
 
 class Pretends:
     """A server, an account, and runs with the flag; a class below says which account."""
 
-    def serve(self, messages):
-        self.server = Server(messages)
+    def serve(self, messages, kind=Server):
+        self.server = kind(messages)
         self.addCleanup(self.server.close)
         self.account = self.make(self.server.port)
         self.addCleanup(self.account.holder.cleanup)
@@ -74,7 +94,8 @@ class Pretends:
         told = [f"msg {number}/{total} ({size_of(text)} octets) {fate}"
                 for number, (fate, (_, text)) in enumerate(zip(fates, self.server.messages), 1)]
         fetched, deleted = counts
-        last = f"{fetched} of {total} messages would be fetched, {deleted} deleted"
+        octets = sum(size_of(text) for fate, (_, text) in zip(fates, self.server.messages) if fate.startswith("would be fetched"))
+        last = f"{fetched} of {total} messages{size_told(octets)} would be fetched, {deleted} deleted"
         self.assertEqual(self.check_run(0, b"", ["QUIT"], *words), [*told, last])
 
 
@@ -107,6 +128,17 @@ class IntoMaildir(Pretends, unittest.TestCase):
         self.check(["would be fetched", "past the limit of this session", "too large"], (1, 0))
         self.session("-q")
         self.check(["held", "would be fetched", "too large"], (1, 0))
+
+    def test_the_size_in_the_last_line(self):
+        """It is that of all messages that would be fetched, by the listing; nothing of none."""
+        self.serve([], SizedServer)
+        for sizes, words in (((0,), ""), ((99,), " (0.0 kB)"), ((9_999,), " (9.9 kB)"), ((10_000,), " (10 kB)"),
+                             ((999_999,), " (999 kB)"), ((500_000, 500_000), " (1.0 MB)"), ((12_345_678,), " (12 MB)"),
+                             ((2**64 - 1, 2**64 - 1), " (18446744073709 MB)")):
+            with self.subTest(sizes):
+                self.server.list_sizes(sizes)
+                told = self.check_run(0, b"", ["QUIT"])
+                self.assertEqual(told[-1], f"{len(sizes)} of {len(sizes)} messages{words} would be fetched, 0 deleted")
 
     def test_one_id_twice(self):
         self.serve([(b"a", b"one\n"), (b"a", b"two\n"), (b"b", b"three\n")])
@@ -266,7 +298,7 @@ class IntoMboxrd(Pretends, unittest.TestCase):
                 self.assertEqual(told, ["0 of 3 messages would be fetched, 0 deleted"] if fault else [
                     "msg 1/3 (5 octets) delivered before", f"msg 2/3 (5 octets) {fate}",
                     "msg 3/3 (7 octets) would be fetched",
-                    f"{2 if fate == 'would be fetched' else 1} of 3 messages would be fetched, 0 deleted"])
+                    f"{2 if fate == 'would be fetched' else 1} of 3 messages (0.0 kB) would be fetched, 0 deleted"])
 
     def test_what_a_run_settles_first(self):
         """Zeros that a loss of power left are cut off, and what others wrote stays, which may leave no mbox. An entry whose

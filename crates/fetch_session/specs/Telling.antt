@@ -1,8 +1,8 @@
 -- The text of a preview.
 use Rattle.std.specs.{
   Prelude.{ℕ, ◌+◌, ◌-◌, ◌*◌, ◌/◌, ◌%◌, min, nat_lt, Bool, true, false, List, [], ◌++◌, flat_map, Option, Some, None},
-  Prelude.{if◌then◌else◌, codes},
-  List.count_by,
+  Prelude.{if◌then◌else◌, codes, ◌==◌},
+  List.{count_by, sum_by},
   Fmt.decimal,
 }
 use Rattle.rc_file.specs.declared.settings.Settings.{Settings}
@@ -13,6 +13,7 @@ use Rattle.fetch_rules.specs.{
 }
 use Rattle.fetch_session.specs.{
   declared.{preview.Preview.Preview, message_preview.MessagePreview.MessagePreview, telling.Date.Date},
+  Report.most_bytes,
   Text.{heading, message_text},
 }
 
@@ -87,13 +88,30 @@ fetched_in message_previews = count_by (λ (told : MessagePreview). fetches told
 abbrev pub deleted_ahead : List MessagePreview → ℕ
 deleted_ahead message_previews = count_by (λ (told : MessagePreview). told.step.delete) message_previews
 
+-- the octets that would be fetched, by their listed sizes
+abbrev pub octets_ahead : List MessagePreview → ℕ
+octets_ahead message_previews =
+    sum_by (λ (told : MessagePreview). if fetches told.step then told.size else 0) message_previews
+
+-- a size in a unit with tenths of so many octets: with a digit after the point below ten
+abbrev pub size_in : ℕ → List ℕ → ℕ → List ℕ
+size_in tenth unit octets = let tenths = octets / tenth in codes " (" ++ (decimal (tenths / 10)
+    ++ (if nat_lt tenths 100 then codes "." ++ (decimal (tenths % 10) ++ (unit ++ codes ")")) else unit ++ codes ")"))
+
+-- from a million octets on in megabytes; nothing of no octets
+abbrev pub size_text : ℕ → List ℕ
+size_text octets = if octets == 0 then [] else if nat_lt octets 1000000 then size_in 100 (codes " kB") octets
+    else size_in 100000 (codes " MB") octets
+
 -- the last line
-abbrev pub counts_text : ℕ → ℕ → ℕ → List ℕ
-counts_text total fetched deleted = decimal fetched ++ (codes " of " ++ (decimal total
-    ++ (codes " messages would be fetched, " ++ (decimal deleted ++ codes " deleted\n"))))
+abbrev pub counts_text : ℕ → ℕ → List ℕ → ℕ → List ℕ
+counts_text total fetched size deleted = decimal fetched ++ (codes " of " ++ (decimal total
+    ++ (codes " messages" ++ (size
+    ++ (codes " would be fetched, " ++ (decimal deleted ++ codes " deleted\n"))))))
 
 abbrev pub counts : Preview → List ℕ
 counts preview = counts_text preview.total (fetched_in preview.message_previews.items)
+    (size_text (most_bytes (octets_ahead preview.message_previews.items)))
     (deleted_ahead preview.message_previews.items)
 
 -- what a run would do, each line ended by LF

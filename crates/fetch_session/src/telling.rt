@@ -1,7 +1,9 @@
 //! The text of a preview. It contains nothing of a password.
-ghost use Rattle.std.specs.{Prelude.{◌≡◌, IfOk}, String.string_bytes};
+ghost use Rattle.std.specs.{Prelude.{◌≡◌, ◌<◌, IfOk}, String.string_bytes};
+ghost use Rattle.fetch_session.specs.Report.{most_bytes};
 ghost use Rattle.fetch_session.specs.Telling.{counts, date_of, date_text, due_text, deleted_ahead, fate_text};
-ghost use Rattle.fetch_session.specs.Telling.{fetched_in, message_preview_text, preview_text, skip_text};
+ghost use Rattle.fetch_session.specs.Telling.{fetched_in, message_preview_text, octets_ahead, preview_text, size_in};
+ghost use Rattle.fetch_session.specs.Telling.{size_text, skip_text};
 
 use crate::message_preview::MessagePreview;
 use crate::preview::Preview;
@@ -11,6 +13,9 @@ use std::alloc::{AllocError, Global};
 
 /// 9999-12-31, in days since 1970.
 const LAST_DAY: u64 = 2_932_896;
+
+/// From how many octets on a size is in megabytes.
+const MEGABYTE: u64 = 1_000_000;
 
 /// A date of the calendar, in UTC.
 #[derive(Clone, Copy)]
@@ -127,6 +132,46 @@ fn deleted_in(message_previews: &[MessagePreview]) -> usize
         .count()
 }
 
+/// The octets that would be fetched, as far as 64 bits go.
+fn octets_in(message_previews: &[MessagePreview]) -> u64
+    ensures { result ≡ most_bytes (octets_ahead message_previews.now) }
+{
+    let mut total = 0u64;
+    for told in message_previews {
+        if told.step.skip.is_none() {
+            total = total.saturating_add(told.size);
+        }
+    }
+    total
+}
+
+/// A size in a unit with tenths of so many octets, in brackets: with a digit after the point below ten.
+fn size_in(alloc: Global, tenth: u64, unit: &str, octets: u64) -> Result<String, AllocError>
+    requires { 0 < tenth }
+    ensures { IfOk result (λ text. string_bytes text ≡ size_in tenth unit.now octets) }
+{
+    let tenths = octets / tenth;
+    let (whole, rest) = (tenths / 10, tenths % 10);
+    if tenths < 100 {
+        format!(in alloc; " ({whole}.{rest}{unit})")
+    } else {
+        format!(in alloc; " ({whole}{unit})")
+    }
+}
+
+/// A size as it is told; nothing of no octets.
+fn size_text(alloc: Global, octets: u64) -> Result<String, AllocError>
+    ensures { IfOk result (λ text. string_bytes text ≡ size_text octets) }
+{
+    if octets == 0 {
+        return Ok(String::new(alloc));
+    }
+    if octets < MEGABYTE {
+        return size_in(alloc, 100, " kB", octets);
+    }
+    size_in(alloc, 100_000, " MB", octets)
+}
+
 /// The last line.
 fn counts(alloc: Global, preview: &Preview) -> Result<String, AllocError>
     ensures { IfOk result (λ text. string_bytes text ≡ counts preview.now) }
@@ -134,7 +179,8 @@ fn counts(alloc: Global, preview: &Preview) -> Result<String, AllocError>
     let total = preview.total;
     let fetched = fetched_in(&preview.message_previews);
     let deleted = deleted_in(&preview.message_previews);
-    format!(in alloc; "{fetched} of {total} messages would be fetched, {deleted} deleted\n")
+    let size = size_text(alloc, octets_in(&preview.message_previews))?;
+    format!(in alloc; "{fetched} of {total} messages{size} would be fetched, {deleted} deleted\n")
 }
 
 /// What a run would do, each line ended by LF: whose mail it is, what would be done with each message, and
