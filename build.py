@@ -98,7 +98,8 @@ def keep(crate, room, sources):
 
 
 def main():
-    signal.signal(signal.SIGTERM, lambda *_: sys.exit(1))
+    for number in (signal.SIGTERM, signal.SIGINT):
+        signal.signal(number, lambda *_: sys.exit(1))
     if sys.argv[1:2] == ["--unchanged"]:
         return refuse_changed(sys.argv[2:])
     programs = sys.argv[1:]
@@ -112,4 +113,9 @@ def main():
 
 
 if __name__ == "__main__":
-    main()
+    try:
+        main()
+    except BrokenPipeError:
+        # What is left is written when this ends.
+        os.dup2(os.open(os.devnull, os.O_WRONLY), sys.stdout.fileno())
+        sys.exit("nothing was built, since nobody reads how far it is")

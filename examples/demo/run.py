@@ -133,7 +133,8 @@ def show(stack, folder):
 
 
 def main():
-    signal.signal(signal.SIGTERM, lambda *_: sys.exit(1))
+    for number in (signal.SIGTERM, signal.SIGINT):
+        signal.signal(number, lambda *_: sys.exit(1))
     with tempfile.TemporaryDirectory() as place, contextlib.ExitStack() as stack:
         folder = Path(place) / "demo"
         shutil.copytree(DEMO, folder, ignore=shutil.ignore_patterns("seen-*", "lock-*", f"{'?' * 64}.*", "__pycache__"))

@@ -529,13 +529,32 @@ class Demo(Copied):
     def test_the_message_is_fetched_and_then_known(self):
         self.check_demo(self.path_with())
 
-    def test_it_ends_well_if_nobody_reads_on(self):
+    def end_of(self, *words, **how):
+        """The status and standard error of a run of a script of ours."""
+        done = subprocess.run(["python3", *words], cwd=self.top, stderr=subprocess.PIPE, timeout=programs.SECONDS, **how)
+        return done.returncode, done.stderr
+
+    def unread(self):
+        """An output that nobody reads."""
         read_end, write_end = os.pipe()
         os.close(read_end)
-        done = subprocess.run(["python3", "examples/demo/run.py"], cwd=self.top, stdout=write_end, stderr=subprocess.PIPE,
-                              env=programs.environment(), timeout=programs.SECONDS)
-        os.close(write_end)
-        self.assertEqual((done.returncode, done.stderr), (0, b""))
+        self.addCleanup(os.close, write_end)
+        return write_end
+
+    def test_it_ends_well_if_nobody_reads_on(self):
+        self.assertEqual(self.end_of("examples/demo/run.py", stdout=self.unread(), env=programs.environment()), (0, b""))
+
+    def test_a_build_that_is_stopped_ends_in_a_line_and_leaves_nothing(self):
+        """If nobody reads on, and by the key that interrupts it, whose signal the stand-in for `rt` sends."""
+        self.place.mkdir()
+        path = self.path_with("#!/bin/sh\neval $FIRST\nexec sleep 60\n")
+        for out, first, told in ((self.unread(), "", b"nothing was built, since nobody reads how far it is\n"),
+                                 (subprocess.DEVNULL, "kill -INT $PPID", b"")):
+            with self.subTest(first):
+                environment = programs.environment(PATH=path, TMPDIR=str(self.place), FIRST=first)
+                self.assertEqual(self.end_of("build.py", "getmail", stdout=out, env=environment), (1, told))
+                self.assertEqual(list(self.place.iterdir()), [])
+                self.assertFalse((self.top / "crates/getmail/out").exists())
 
     def test_before_any_proof_it_says_so_and_tries_the_programs(self):
         for name in ("getmail", "popd"):
