@@ -7,9 +7,10 @@ before it answers, or that holds back what it wrote, gives no line in time, and 
 import os
 import select
 import subprocess
+import termios
 import time
 
-from harness import programs
+from harness import kernel, programs
 
 
 class Dialogue:
@@ -59,9 +60,12 @@ class Dialogue:
         line, _, self.waiting = self.waiting.partition(end)
         return line + end
 
-    def wrote_nothing(self, seconds=0.05):
-        """True if no output waits, and none comes within a moment."""
-        return self.waiting == b"" and not self._take(seconds)
+    def wrote_nothing(self):
+        """True if it has taken all that it was given, waits, and has written nothing."""
+        if not self.process.stdin.closed:
+            kernel.wait_for(lambda: kernel.octets_of(self.process.stdin, termios.FIONREAD) == 0, "its input isn't read")
+        kernel.wait_for_state(self.process.pid, "S")
+        return self.waiting == b"" and not self._take(0)
 
     def finish(self):
         """What the program writes from here to its end, and its exit status; its input stays as it is."""

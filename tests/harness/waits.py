@@ -54,10 +54,10 @@ class Time(Hurry):
         """So many seconds pass while the program waits."""
         self.given += os.write(self.end, bytes(seconds))
 
-    def let_pass(self, seconds):
-        """So many seconds have passed while the program waits."""
+    def let_pass(self, seconds, is_over=lambda: False):
+        """So many seconds have passed while the program waits, or it is over before."""
         self.give(seconds)
-        kernel.wait_for(lambda: kernel.octets_of(self.end, termios.FIONREAD) == 0, "the program doesn't wait")
+        kernel.wait_for(lambda: kernel.octets_of(self.end, termios.FIONREAD) == 0 or is_over(), "the program doesn't wait")
 
     def taken(self):
         """How many of the seconds that were given have passed; the others don't any more."""

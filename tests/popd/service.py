@@ -4,6 +4,7 @@ import contextlib
 import os
 import poplib
 import re
+import select
 import socket
 import struct
 import subprocess
@@ -158,6 +159,10 @@ class Service:
     def peak_of_memory(self):
         """The most memory that the server has had so far, in octets."""
         return kernel.peak_of_memory(self.process.pid)
+
+    def has_told(self, seconds=0):
+        """True if it has written to standard error, now or within some seconds."""
+        return bool(select.select([self.process.stderr], [], [], seconds)[0])
 
     def finish(self):
         """Waits until the server ends by itself; its status and what it wrote to standard error."""

@@ -19,6 +19,9 @@ from popd.service import Maildir, Service
 READY = b"+OK popd ready\r\n"
 ROOM = 1 << 20
 
+# How long a client has to log in, and then for each command and answer, in seconds.
+MINUTE, IDLE = 60, 600
+
 
 class OverLoopback(unittest.TestCase):
     """A Maildir of its own for each test."""
@@ -60,9 +63,10 @@ class Connections(OverLoopback):
         with Service(self.maildir, "--connections", "1") as service:
             with service.client() as client:
                 client.log_in()
-                for sent in (signal.SIGSTOP, signal.SIGCONT) * 3:
-                    time.sleep(0.05)
-                    service.process.send_signal(sent)
+                for _ in range(3):
+                    for state, sent in (("S", signal.SIGSTOP), ("T", signal.SIGCONT)):
+                        kernel.wait_for_state(service.process.pid, state)
+                        service.process.send_signal(sent)
                 self.assertEqual(client.ask(b"NOOP"), b"+OK\r\n")
                 self.assertEqual(client.ask(b"QUIT"), b"+OK bye\r\n")
             self.assertEqual(service.finish(), (0, b""))
@@ -121,18 +125,19 @@ class Connections(OverLoopback):
         server waits a second before it tries the next."""
         words = [programs.path_of("popd"), "--listen", f"{LOOPBACK}:0", "--connections", "3", "u",
                  self.maildir.passfile, self.maildir.folder]
-        begun = time.monotonic()
-        done = subprocess.run(["sh", "-c", 'ulimit -n 4 && exec "$0" "$@"', *words], stdin=subprocess.DEVNULL,
-                              capture_output=True, env=programs.environment(), timeout=programs.SECONDS)
+        hurry = waits.hurry_for(type(self))
+        # The file of notes has a descriptor too.
+        done = subprocess.run(["sh", "-c", 'ulimit -n 5 && exec "$0" "$@"', *words], stdin=subprocess.DEVNULL,
+                              capture_output=True, env=programs.environment(**hurry.environment()), timeout=programs.SECONDS)
         self.assertEqual((done.returncode, done.stdout, done.stderr), (0, b"", b"popd: read failed\n" * 3))
-        self.assertGreaterEqual(time.monotonic() - begun, 3)
+        self.assertEqual(hurry.slept(), [1000] * 3)
 
     def test_all_lines_at_once(self):
         """A client that does not wait for the answers gets all of them, in order."""
-        hurry = waits.hurry_for(type(self), speed=10)
+        passing = waits.time_for(type(self))
         for name, conversation in lines.CONVERSATIONS.items():
             given = lines.given(conversation) + b"QUIT\r\n"
-            with self.subTest(name), Service(self.maildir, "--connections", "1", **hurry.environment()) as service, \
+            with self.subTest(name), Service(self.maildir, "--connections", "1", **passing.environment()) as service, \
                     service.client() as client:
                 self.maildir.add("new", "a", b"one\n")
                 answers = expected.answers(given, self.machine())
@@ -142,18 +147,18 @@ class Connections(OverLoopback):
 
 
 class Waits(OverLoopback):
-    """A client that neither says nor takes anything; ten minutes are three seconds here, and a minute is 0.3 s."""
+    """A client that neither says nor takes anything has ten minutes, and one that doesn't log in a minute."""
 
     @classmethod
     def setUpClass(cls):
-        cls.hurry = waits.hurry_for(cls, speed=200)
+        cls.time = waits.time_for(cls)
 
     def setUp(self):
         super().setUp()
         self.maildir.add("new", "a", b"x" * 79 + b"\n" * 100_000)
 
     def service(self, **environment):
-        return Service(self.maildir, "--connections", "2", **self.hurry.environment(), **environment)
+        return Service(self.maildir, "--connections", "2", **{**self.time.environment(), **environment})
 
     def check_next_client(self, service, *told, count=1):
         """The message that was marked is still there for the next client, and one of these lines was printed."""
@@ -168,7 +173,7 @@ class Waits(OverLoopback):
         """Each connection asks for no more than what is left of a minute; once it is logged in, as the last one is, for
         ten minutes to read, and for ten seconds for each try to write."""
         connections = []
-        for word, asked in self.hurry.asked():
+        for word, asked in self.time.asked():
             if word == "nodelay":
                 connections.append([])
             elif word != "sleep":
@@ -186,22 +191,35 @@ class Waits(OverLoopback):
             with self.subTest(given), self.service() as service:
                 with service.client() as silent:
                     silent.give(given)
-                    self.assertEqual(len(silent.rest().splitlines()), 1 + given.count(b"\r\n"))
+                    for _ in range(1 + given.count(b"\r\n")):
+                        self.assertTrue(silent.line())
+                    self.time.give(3 * IDLE)
+                    self.assertEqual(silent.rest(), b"")
+                    taken = self.time.taken()
+                reads = [asked for word, asked in self.time.asked() if word == "read"]
+                self.assertEqual(taken, -(-reads[-1] // 1000))
                 self.check_next_client(service, b"popd: read failed\n")
                 self.check_asked()
+
+    def test_the_system_ends_the_wait(self):
+        """Of a client that says nothing; a minute is 0.3 s."""
+        hurry = waits.hurry_for(type(self), speed=200)
+        with self.service(**hurry.environment(), HURRY_TIME=None) as service, service.client() as silent:
+            self.assertEqual(silent.rest(), READY)
 
     def test_a_client_that_takes_nothing(self):
         self.maildir.add("new", "b", b"two\n")
         with self.service() as service, service.client() as deaf:
             deaf.log_in()
             self.assertEqual(deaf.ask(b"DELE 2"), b"+OK marked\r\n")
-            begun = time.monotonic()
             deaf.give(b"RETR 1\r\n" * 500)
+            kernel.wait_until_taken(deaf.socket)
+            self.time.give(3 * IDLE)
+            self.assertTrue(service.has_told(programs.SECONDS))
+            # The system takes a part of an answer, and the wait for the rest of it isn't another ten minutes.
+            self.assertIn(self.time.taken(), range(IDLE, IDLE + MINUTE))
             self.check_next_client(service, b"popd: write failed\n", count=2)
             self.check_asked()
-            # The system takes a part of an answer, and the wait for the rest of it isn't another ten minutes.
-            self.assertGreater(time.monotonic() - begun, 2.8)
-            self.assertLess(time.monotonic() - begun, 5.5)
 
     def test_a_client_that_takes_its_time(self):
         """It takes a part every now and then, for more than ten minutes in all."""
@@ -210,40 +228,40 @@ class Waits(OverLoopback):
             slow.give(b"RETR 1\r\n" * 100 + b"QUIT\r\n")
             got = b""
             for _ in range(4):
-                time.sleep(0.9)
+                self.time.let_pass(3 * MINUTE)
                 got += slow.file.read(1 << 20)
             got += slow.rest()
             self.assertEqual((got.count(b"+OK 200079 octets\r\n"), got[-9:]), (100, b"+OK bye\r\n"))
             self.check_next_client(service, b"")
 
     def keep_talking(self, service, piece):
-        """Says a piece every now and then until the server has had enough; how long that took."""
-        begun = time.monotonic()
+        """Says a piece every five seconds until the server has had enough; how long that took, with the pauses."""
         with service.client() as client, contextlib.suppress(ConnectionError):
-            while time.monotonic() - begun < programs.SECONDS:
+            for _ in range(100):
                 client.give(piece)
-                time.sleep(0.02)
-        return time.monotonic() - begun
+                self.time.let_pass(5, service.has_told)
+                if service.has_told():
+                    break
+        return self.time.taken() + sum(self.time.slept()) // 1000
 
     def test_a_client_that_talks_and_does_not_log_in(self):
         """A minute is all that it gets, though it never waits for long."""
         for piece in (b"x", b"NOOP\r\n", b"USER u\r\n", b"USER u\r\nPASS q\r\n"):
             with self.subTest(piece), self.service() as service:
-                took = self.keep_talking(service, piece)
-                self.assertGreater(took, 0.25)
-                self.assertLess(took, programs.SECONDS / 2)
+                self.assertIn(self.keep_talking(service, piece), range(MINUTE - 10, MINUTE + 1))
                 self.check_next_client(service, b"popd: read failed\n", b"popd: write failed\n")
                 self.check_asked()
 
     def test_a_client_that_never_pauses_and_does_not_log_in(self):
-        """It has a minute too, which isn't enough for all that it says."""
+        """It has a minute too, 0.3 s here, which isn't enough for all that it says."""
         lines, answers = 1_000_000, 0
+        hurry = waits.hurry_for(type(self), speed=200)
 
         def talk():
             with contextlib.suppress(ConnectionError):
                 client.give(b"NOOP\r\n" * lines)
 
-        with self.service() as service:
+        with self.service(**hurry.environment(), HURRY_TIME=None) as service:
             with service.client() as client:
                 talker = threading.Thread(target=talk)
                 talker.start()
@@ -260,7 +278,7 @@ class Waits(OverLoopback):
             with service.client() as client:
                 client.log_in()
                 for _ in range(2):
-                    time.sleep(1.2)
+                    self.time.let_pass(4 * MINUTE)
                     self.assertEqual(client.ask(b"NOOP"), b"+OK\r\n")
                 self.assertEqual(client.ask(b"QUIT"), b"+OK bye\r\n")
             self.check_next_client(service, b"")
@@ -269,8 +287,7 @@ class Waits(OverLoopback):
         """The bound of a login is lifted only once that of ten minutes is set: else the client has one."""
         with self.service(HURRY_REFUSED="idle") as service:
             took = self.keep_talking(service, b"USER u\r\nPASS p\r\nDELE 1\r\n")
-            self.assertGreater(took, 0.25)
-            self.assertLess(took, programs.SECONDS / 2)
+            self.assertIn(took, range(MINUTE - 10, MINUTE + 1))
             self.check_next_client(service, b"popd: read failed\n", b"popd: write failed\n")
 
     def test_waits_that_cannot_be_bounded(self):
@@ -302,28 +319,22 @@ class Ports(OverLoopback):
 
 
 class Guesses(OverLoopback):
-    """The answers to refused passwords of a connection are held back, each longer than the one before; a second is a
-    tenth of one here, and a minute is six."""
+    """The answers to refused passwords of a connection are held back, each longer than the one before."""
 
     GUESS = b"USER u\r\nPASS q\r\n"
     REFUSED = b"-ERR refused\r\n"
 
     @classmethod
     def setUpClass(cls):
-        cls.hurry = waits.hurry_for(cls, speed=10)
+        cls.time = waits.time_for(cls)
 
     def service(self, connections):
-        return Service(self.maildir, "--connections", str(connections), **self.hurry.environment())
-
-    def sleeps(self):
-        return [asked for word, asked in self.hurry.asked() if word == "sleep"]
+        return Service(self.maildir, "--connections", str(connections), **self.time.environment())
 
     def guess(self, client):
-        """How long the answer to a wrong password took."""
+        """A wrong password is refused."""
         client.ask(b"USER u")
-        begun = time.monotonic()
         self.assertEqual(client.ask(b"PASS q"), self.REFUSED)
-        return time.monotonic() - begun
 
     def test_each_waits_twice_as_long_up_to_eight_seconds(self):
         """A new connection begins anew, and the right password is answered at once."""
@@ -332,33 +343,32 @@ class Guesses(OverLoopback):
                 with service.client() as client:
                     client.line()
                     for seconds in (1, 2, 4, 8, 8):
-                        self.assertGreater(self.guess(client), seconds / 10 * 0.9)
+                        self.guess(client)
+                        self.assertEqual(self.time.slept()[-1], 1000 * seconds)
                     client.ask(b"USER u")
                     self.assertEqual(client.ask(b"PASS p"), b"+OK 0 messages\r\n")
             self.assertEqual(service.finish(), (0, b""))
-        self.assertEqual(self.sleeps(), [1000, 2000, 4000, 8000, 8000] * 2)
+        self.assertEqual(self.time.slept(), [1000, 2000, 4000, 8000, 8000] * 2)
 
     def test_a_second_is_one(self):
         with Service(self.maildir, "--connections", "1") as service, service.client() as client:
             client.line()
-            self.assertGreater(self.guess(client), 0.95)
+            begun = time.monotonic()
+            self.guess(client)
+            self.assertGreater(time.monotonic() - begun, 0.95)
             self.assertEqual(service.process.poll(), None)
 
     def test_the_pauses_end_with_the_time_to_log_in(self):
         """However fast it guesses, it has ten passwords in its minute, and the next client waits no longer than that."""
         with self.service(2) as service:
-            begun = time.monotonic()
             with service.client() as client, service.client() as next_client:
                 client.give(self.GUESS * 1000)
                 self.assertLessEqual(client.rest_or_reset().count(self.REFUSED), 10)
                 self.assertEqual(next_client.line(), READY)
-                took = time.monotonic() - begun
-            self.assertGreater(took, 5)
-            self.assertLess(took, 5 + programs.NEXT_OUTPUT_SECONDS)
             self.assertEqual(service.finish_after_faults(), (0, b"popd: write failed\n"))
-        sleeps = self.sleeps()
-        self.assertEqual(sleeps[:9], [1000, 2000, 4000] + [8000] * 6)
-        self.assertLessEqual(sum(sleeps), 60_000)
+        slept = self.time.slept()
+        self.assertEqual(slept[:9], [1000, 2000, 4000] + [8000] * 6)
+        self.assertLessEqual(sum(slept), MINUTE * 1000)
 
     def test_what_is_no_refused_password_is_answered_at_once(self):
         with self.service(1) as service, service.client() as client:
@@ -366,15 +376,15 @@ class Guesses(OverLoopback):
                 client.ask(command)
             client.rest()
             self.assertEqual(service.finish(), (0, b""))
-        self.assertEqual(self.sleeps(), [])
+        self.assertEqual(self.time.slept(), [])
 
     def converse(self, given, output):
         """Over standard input and output; the pauses."""
         words = [programs.path_of("popd"), "u", self.maildir.passfile, self.maildir.folder]
         done = subprocess.run(words, stdin=given, stdout=output, stderr=subprocess.PIPE, timeout=programs.SECONDS,
-                              env=programs.environment(**self.hurry.environment()))
+                              env=programs.environment(**self.time.environment()))
         self.assertEqual((done.returncode, done.stderr), (0, b""))
-        return self.sleeps() if self.hurry.note.exists() else []
+        return self.time.slept()
 
     def test_standard_input(self):
         """They are held back if it is a socket, not if it is a pipe or a file."""

@@ -63,8 +63,8 @@ def check_seed(test, seed, **environment):
 
 class RandomMaildirs(unittest.TestCase):
     def test_random_maildirs(self):
-        """The pauses after refused passwords are cut short."""
-        hurry = waits.hurry_for(type(self), speed=10)
+        """The pauses after refused passwords are over at once."""
+        passing = waits.time_for(type(self))
         for seed in range(SEEDS):
             with self.subTest(seed=seed):
-                check_seed(self, seed, **hurry.environment())
+                check_seed(self, seed, **passing.environment())
