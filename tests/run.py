@@ -4,11 +4,15 @@
 A program that was not built is a failure, also of each test that needs it beside its own, and so is one that doesn't run
 with a library preloaded; `--only NAME` runs one program's tests. A test that needs software which isn't there is skipped,
 with a line that names it. The status is 0 only if every other test has passed. Nothing is left out by mistake: a folder with
-tests that no list names, a table that no list names and a `-k` that fits no test are errors.
+tests that no list names, a table that no list names and a `-k` that fits no test are errors. Each test has a verdict: one that
+isn't over after TESTS_MINUTES (30) fails, and so does one with a thread that ends by an error.
 """
 
 import argparse
+import os
+import signal
 import sys
+import threading
 import time
 import unittest
 from pathlib import Path
@@ -17,6 +21,33 @@ TESTS = Path(__file__).resolve().parent
 sys.path.insert(0, str(TESTS))
 
 from harness import preload, programs  # noqa: E402 (the path has to be there first)
+
+
+MINUTES = int(os.environ.get("TESTS_MINUTES", "30"))
+
+
+class Result(unittest.TextTestResult):
+    """Verdicts also of a test that doesn't end, and of its threads."""
+
+    def __init__(self, *words, **more):
+        super().__init__(*words, **more)
+        self.thread_errors = []
+        threading.excepthook = self.thread_errors.append
+        signal.signal(signal.SIGALRM, self.end_test)
+
+    def end_test(self, *_):
+        raise AssertionError(f"it isn't over after {MINUTES} minutes")
+
+    def startTest(self, test):
+        super().startTest(test)
+        signal.alarm(60 * MINUTES)
+
+    def stopTest(self, test):
+        signal.alarm(0)
+        while self.thread_errors:
+            error = self.thread_errors.pop()
+            self.addFailure(test, (error.exc_type, error.exc_value, error.exc_traceback))
+        super().stopTest(test)
 
 
 def read_words():
@@ -55,7 +86,7 @@ def run_tests_of(name, words):
         print(f"tests of {name}: {path} doesn't run with a library preloaded: has it a sanitizer?")
         return False, suite.countTestCases()
     begun = time.monotonic()
-    result = unittest.TextTestRunner(sys.stdout, verbosity=2 if words.verbose else 0).run(suite)
+    result = unittest.TextTestRunner(sys.stdout, verbosity=2 if words.verbose else 0, resultclass=Result).run(suite)
     for test, reason in result.skipped:
         print(f"tests of {name}: {test.id()} is skipped: {reason}")
     run = result.testsRun - len(result.skipped)

@@ -1,5 +1,6 @@
 """Sessions over loopback with a server that breaks off anywhere, into a Maildir in a real folder."""
 
+import contextlib
 import hashlib
 import itertools
 import os
@@ -295,17 +296,15 @@ class Floods(unittest.TestCase):
             listener.settimeout(programs.SECONDS)
 
             def serve():
-                client, _ = listener.accept()
-                with client:
-                    try:
+                with contextlib.suppress(OSError):
+                    client, _ = listener.accept()
+                    with client:
                         for reply in replies:
                             client.sendall(reply)
                         # What the client sent is read, so that the end comes in order and isn't a reset.
                         client.shutdown(socket.SHUT_WR)
                         while client.recv(65536):
                             pass
-                    except OSError:
-                        pass
 
             thread = threading.Thread(target=serve, daemon=True)
             thread.start()

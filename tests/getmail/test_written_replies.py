@@ -89,12 +89,12 @@ def on_the_wire(text):
 class WrittenReplies(unittest.TestCase):
     def converse(self, listener, session, asked):
         """Says all replies at once, and notes what is asked."""
-        client, _ = listener.accept()
-        with client:
-            client.settimeout(programs.SECONDS)
-            client.sendall(on_the_wire(session.replies))
-            client.shutdown(socket.SHUT_WR)
-            with contextlib.suppress(ConnectionError):
+        with contextlib.suppress(OSError):
+            client, _ = listener.accept()
+            with client:
+                client.settimeout(programs.SECONDS)
+                client.sendall(on_the_wire(session.replies))
+                client.shutdown(socket.SHUT_WR)
                 while octets := client.recv(65536):
                     asked.append(octets)
 
