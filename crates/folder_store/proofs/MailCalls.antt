@@ -9,20 +9,21 @@ use Rattle.std.{
   proofs.lemmas.List.{map-append, get_or-map, length-map},
   proofs.lemmas.List.Sorted.{Contains-permutation, IsPermutation-append, IsPermutation-sym, IsPermutation-map, IsPermutation-trans},
   proofs.lemmas.List.Sorted.IsPermutation-filter_both,
-  specs.{Borrow.Bor, List.{AllZip, filter}},
+  specs.List.{AllZip, filter},
 }
 use Rattle.mail_store.{
   specs.Maildir.{AfterFlushing, AfterTaking, AreTheirs, Checks, Draft, File, Folders, IsWithout, Lists, Maildir, MayBeNamed, MayHave, mail},
   specs.Maildir.{bases_told, maildir_refused, draft, dropped, is_there, names_of},
-  specs.{Held.{AreAmong, ListsAmong, is_sought}, Loss.{Flushes, with_flushed, flushed_by}, Fault.{IsDeviceFault, is_refusal}},
+  specs.{Held.{AreAmong, ListsAmong, asks, is_sought}, Loss.{Flushes, with_flushed, flushed_by}, Fault.{IsDeviceFault, is_refusal}},
   specs.declared.{maildir.disk.Folder.{Folder, TheVariants.{New, Cur}}, fault.StoreFault.{StoreFault, TheVariants.{Missing, Refused}}},
+  specs.declared.maildir.disk.Asked.Asked,
   proofs.MaildirLemmas.{named_same, reached_same, reaches_same, without_more, without_on, sought_bases, stem_base},
 }
 use Rattle.mail_terms.{specs.{MaildirName.base, FailureCount.refuses, UniqueId.has_id}, proofs.{ErrLemmas.is_err, ListLemmas.all_append}}
 use Rattle.folder_store.{
   specs.MailFolders.{KeepsFile, MailFile, Directories, files_at, is_left, is_taken, mail_at, MovesFile, Moved, touches, touches_new, is_in},
   specs.MailFolders.{RestsFile, touches_cur, name_at, entries_in, draft_begun, maildir_in, odd_in_both, rests_in},
-  specs.{FileFolder.MadeFile, declared.mail_folders.{FoundNames.FoundNames, Sought.{Sought, TheVariants.{All, Stems}}}},
+  specs.{FileFolder.MadeFile, declared.mail_folders.{FoundNames.FoundNames, Sought.{Sought, TheVariants.{All, Items}}}},
   specs.MailCalls.{BringsFiles, ChecksIn, FlushesFiles, FlushesNamesIn, IfMissing, Lacks, LacksOne, Leads, Learns, ListedBoth},
   specs.MailCalls.{ListsIn, MakesDraft, PutsDraft, PutsDurably, PutsIntoNew, SameFiles, StandsIn, TellsOfBoth, TellsFiles, TellsOne, Then},
   specs.MailCalls.{AllSought, TellsRest, ToldBoth, entry_flushed_by, after_listing, file_names, named_by},
@@ -157,10 +158,10 @@ told_part : {A : Type 0} (ss : List MailFile) (names : List (String A))
     → IsPermutation (map name_at ss) (map string_bytes names) → IsPermutation (map title ss) (bases_told names)
 told_part ss names p = rw (map-map, map-map) at (IsPermutation-map base (map name_at ss) (map string_bytes names) p)
 
-told_both : {A : Type 0} (stems : List (String A)) (ss : List MailFile) (new cur : List (List ℕ))
-    → AreAmong stems (map name_at (entries_in New ss)) new → AreAmong stems (map name_at (entries_in Cur ss)) cur
-    → AreAmong stems (names_of (files_at (filter is_left ss))) (map base (new ++ cur))
-told_both stems ss new cur (first, in_new, are_new) (second, in_cur, are_cur) =
+told_both : (seeks : List ℕ → Bool) (ss : List MailFile) (new cur : List (List ℕ))
+    → AreAmong seeks (map name_at (entries_in New ss)) new → AreAmong seeks (map name_at (entries_in Cur ss)) cur
+    → AreAmong seeks (names_of (files_at (filter is_left ss))) (map base (new ++ cur))
+told_both seeks ss new cur (first, in_new, are_new) (second, in_cur, are_cur) =
     let left = filter is_left ss in
     let both = entries_in New ss ++ entries_in Cur ss in
     let all = IsPermutation-trans (map name_at left) (map name_at both) (first ++ second)
@@ -169,7 +170,7 @@ told_both stems ss new cur (first, in_new, are_new) (second, in_cur, are_cur) =
     let bases = IsPermutation-map base (map name_at left) (first ++ second) all in (
       map base (first ++ second),
       rw map-map (rw map-map at bases),
-      ap (map base) (rw (are_new, are_cur) (sym (filter-append (is_sought stems) first second))) ∙ sought_bases stems (first ++ second),
+      ap (map base) (rw (are_new, are_cur) (sym (filter-append (is_sought seeks) first second))) ∙ sought_bases seeks (first ++ second),
     )
 
 -- both lists, and `new` has rested since its own
@@ -224,17 +225,17 @@ flush_odd : {T : Type 0} (folder : Folder) (done : T) (a b : Directories) → Th
 flush_odd folder done a b (m, v, e) = rw e (v.odd_new, v.odd_cur, v.dirs_cur)
 
 -- those that were seen are sought
-all_sought : {A : Type 0} (stems : List (String A)) (files closed odd : List (List ℕ))
-    → odd ≡ file_names files (filter (is_sought stems) closed) → AllSought stems odd
-all_sought stems files closed odd is = rw is (recursion_from_All _ _ (All-filter (λ name. not (has_id files name))
-    (λ name. is_sought stems name ≡ true) (filter (is_sought stems) closed) (filter_passes (is_sought stems) closed)))
+all_sought : (seeks : List ℕ → Bool) (files closed odd : List (List ℕ))
+    → odd ≡ file_names files (filter (is_sought seeks) closed) → AllSought seeks odd
+all_sought seeks files closed odd is = rw is (recursion_from_All _ _ (All-filter (λ name. not (has_id files name))
+    (λ name. is_sought seeks name ≡ true) (filter (is_sought seeks) closed) (filter_passes (is_sought seeks) closed)))
 
 -- and then the names of both folders were flushed, and it was told which are those of files
-module _ {A B T : Type 0} (stems : Bor (List (String Global))) (o a b c d : Directories) (in_new in_cur : Vec (String A) B)
-    (done done' : T) (listed : ListedBoth (Stems stems) (in_new, in_cur) a) (new : Then (FlushesNamesIn New (Ok done)) a b)
+module _ {A B T : Type 0} (asked : Asked) (o a b c d : Directories) (in_new in_cur : Vec (String A) B)
+    (done done' : T) (listed : ListedBoth (Items asked) (in_new, in_cur) a) (new : Then (FlushesNamesIn New (Ok done)) a b)
     (cur : Then (FlushesNamesIn Cur (Ok done')) b c) (before : Learns o c) where
   told : (found : FoundNames) → Then (TellsFiles (map string_bytes in_new.items) (map string_bytes in_cur.items) (Ok found)) c d
-      → ToldBoth stems.now found.files.items found.odd.items d
+      → ToldBoth (asks asked) found.files.items found.odd.items d
   told found (m, v, (e, (are, odd_are))) =
       let l = listed.0 in
       let first = flushes_leads New a b (Ok done) new in
@@ -250,7 +251,7 @@ module _ {A B T : Type 0} (stems : Bor (List (String Global))) (o a b c d : Dire
       let odd_cur : m.odd_cur ≡ l.odd_cur = v.odd_cur ∙ by_cur.1 ∙ by_new.1 ∙ listed.3.odd_cur in
       let dirs_cur : m.dirs_cur ≡ l.dirs_cur = v.dirs_cur ∙ by_cur.2 ∙ by_new.2 ∙ listed.3.dirs_cur in
       let odd : odd_in_both d ≡ odd_in_both l = rw e (rw (odd_new, odd_cur) refl) in
-      let both = told_both stems.now l.entries _ _ listed.1.1 listed.2.1 in record {
+      let both = told_both (asks asked) l.entries _ _ listed.1.1 listed.2.1 in record {
         new_is_there = rw there listed.1.0;
         cur_is_there = rw there listed.2.0;
         lists = (
@@ -262,13 +263,13 @@ module _ {A B T : Type 0} (stems : Bor (List (String Global))) (o a b c d : Dire
         odd_are = subst (λ (there : List (List ℕ)). IsPermutation there (map string_bytes found.odd.items)) (sym odd)
             (subst (IsPermutation (odd_in_both l)) (sym (rw (odd_new, odd_cur) at odd_are))
             (IsPermutation-append _ _ _ _ listed.1.3.1 listed.2.3.1));
-        odd_sought = subst (AllSought stems.now) (sym odd) (all_append _ l.odd_new l.odd_cur
-            (all_sought stems.now _ _ l.odd_new listed.1.3.0) (all_sought stems.now _ _ l.odd_cur listed.2.3.0));
+        odd_sought = subst (AllSought (asks asked)) (sym odd) (all_append _ l.odd_new l.odd_cur
+            (all_sought (asks asked) _ _ l.odd_new listed.1.3.0) (all_sought (asks asked) _ _ l.odd_cur listed.2.3.0));
       }
 
   pub told_files : (r : Result FoundNames StoreFault) → IfErr r (λ fault. fault ≡ Refused)
       → Then (TellsFiles (map string_bytes in_new.items) (map string_bytes in_cur.items) r) c d
-      → TellsOfBoth o r d (λ found. ToldBoth stems.now found.files.items found.odd.items)
+      → TellsOfBoth o r d (λ found. ToldBoth (asks asked) found.files.items found.odd.items)
   told_files (Ok found) refused (m, v, t) = (leads_after o c d before (moved_same c m d v t.0), told found (m, v, t), tt)
   told_files (Err fault) refused (m, v, t) =
       (leads_after o c d before (moved_same c m d v t.0), tt, λ missing. let is : fault ≡ Refused = refused in absurd cc)
@@ -375,11 +376,11 @@ one_lacks there New e = inl e
 one_lacks there Cur e = inr e
 
 -- what was told
-pub told_names : {C : Type 0} (stems : List (String C)) (a b : Directories) (begun : Option Draft) (was : List (List ℕ)) (n m : ℕ)
-    (found : FoundNames) → TellsOfBoth {T = FoundNames} a (Ok found) b (λ found. ToldBoth stems found.files.items found.odd.items) → m ≡ n
+pub told_names : (seeks : List ℕ → Bool) (a b : Directories) (begun : Option Draft) (was : List (List ℕ)) (n m : ℕ)
+    (found : FoundNames) → TellsOfBoth {T = FoundNames} a (Ok found) b (λ found. ToldBoth seeks found.files.items found.odd.items) → m ≡ n
     → AfterTaking (maildir_in a begun was n)
-    (λ left. ListsAmong left stems (Ok found.files) (maildir_in b begun (map string_bytes found.odd.items) m))
-told_names stems a b begun was n m found (l, told, _) k =
+    (λ left. ListsAmong left seeks (Ok found.files) (maildir_in b begun (map string_bytes found.odd.items) m))
+told_names seeks a b begun was n m found (l, told, _) k =
     let odd = map string_bytes found.odd.items in
     let new : a.there.new ≡ true = rw (sym l.there) told.new_is_there in
     seen a b begun was odd n l (λ none. absurd (true≢false (sym new ∙ none))) (
@@ -392,16 +393,16 @@ told_names stems a b begun was n m found (l, told, _) k =
       told.odd_sought,
     )
 
-pub none_told : {C : Type 0} {odd : List (List ℕ)} (stems : List (String C)) (a b : Directories) (begun : Option Draft) (n m : ℕ)
+pub none_told : {odd : List (List ℕ)} (seeks : List ℕ → Bool) (a b : Directories) (begun : Option Draft) (n m : ℕ)
     (fault : StoreFault) → Learns a b → (fault ≡ Missing → LacksOne b) → IsDeviceFault fault
     → IsCountAfter {T = FoundNames} (Err fault) n m → AfterTaking (maildir_in a begun odd n)
-    (λ left. ListsAmong {B = Global} {C = Global} left stems (Err fault) (maildir_in b begun odd m))
-none_told {odd} stems a b begun n m Missing l missing device k =
+    (λ left. ListsAmong {A = Global} {B = Global} left seeks (Err fault) (maildir_in b begun odd m))
+none_told {odd} seeks a b begun n m Missing l missing device k =
     let lacks = missing refl in
     seen a b begun odd odd n l (λ _. refl) (rw (sym l.there) (one_lacks b.there lacks.0 lacks.1), left_as a b begun odd m n n l k)
-none_told {odd} stems a b begun n m Refused l missing device k =
+none_told {odd} seeks a b begun n m Refused l missing device k =
     seen a b begun odd odd n l (λ _. refl) (left_as a b begun odd m (n + 1) n l k)
-none_told {odd} stems a b begun n m _ l missing device k = absurd (⊎_elim (λ e. cc) (λ e. cc) device)
+none_told {odd} seeks a b begun n m _ l missing device k = absurd (⊎_elim (λ e. cc) (λ e. cc) device)
 
 pub told_those : {A B : Type 0} {odd : List (List ℕ)} (a b : Directories) (folder : Folder) (begun : Option Draft) (n m : ℕ)
     (r : Result (Vec (String A) B) StoreFault) → TellsOne a folder r b → IfErr r IsDeviceFault → IsCountAfter r n m

@@ -10,11 +10,11 @@ use Rattle.mail_store.specs.{
   declared.maildir.disk.Folder.{Folder, TheVariants.{New, Cur}},
   FileName.stem,
   Maildir.{AllNamed, AreTheirs, File, IsWithout, MayBeNamed, bases_told, is_there, mail, names_of},
-  Held.{AreAmong, is_sought},
+  Held.{AreAmong, asks, is_sought},
   Loss.is_among,
 }
 use Rattle.folder_store.specs.{
-  declared.mail_folders.{FoundNames.FoundNames, Sought.{Sought, TheVariants.{All, Stems}}},
+  declared.mail_folders.{FoundNames.FoundNames, Sought.{Sought, TheVariants.{All, Items}}},
   FileFolder.{MadeFile, Makes},
   MailFolders.{Directories, MailFile, KeepsFile, Moved, files_at, is_left, is_taken, name_at, entries_in, rests_in},
   MailFolders.{closed_in, odd_in_both, odd_names_in, touches_new, touches_cur, unopened_in},
@@ -53,7 +53,7 @@ ChecksIn folder r old new =
 -- those of some names that are sought, in order
 abbrev pub names_sought : Sought → List (List ℕ) → List (List ℕ)
 names_sought All names = names
-names_sought (Stems stems) names = filter (is_sought stems.now) names
+names_sought (Items asked) names = filter (is_sought (asks asked)) names
 
 -- those of some names that are sought were told, in any order
 abbrev pub AreSought : Sought → List (List ℕ) → List (List ℕ) → Type 0
@@ -69,18 +69,18 @@ file_names odd names = filter (λ name. not (has_id odd name)) names
 -- the same, but if all are sought each counts as that of a file
 abbrev pub names_told : Sought → List (List ℕ) → List (List ℕ) → List (List ℕ)
 names_told All odd names = names
-names_told (Stems stems) odd names = file_names odd names
+names_told (Items asked) odd names = file_names odd names
 
--- each of these names is sought
-abbrev pub AllSought : {A : Type 0} → List (String A) → List (List ℕ) → Type 0
-AllSought stems names = AllByRecursion (λ name. is_sought stems name ≡ true) names
+-- the stem of each of these names is sought
+abbrev pub AllSought : (List ℕ → Bool) → List (List ℕ) → Type 0
+AllSought seeks names = AllByRecursion (λ name. is_sought seeks name ≡ true) names
 
 -- where files and what can't be opened bear these names, the odd ones are exactly those of the latter that are sought;
 -- these were told, and no others as such. If all are sought, no name counts as odd
 abbrev pub ShowsOdd : Sought → (files closed odd names : List (List ℕ)) → Type 0
 ShowsOdd All files closed odd names = odd ≡ []
-ShowsOdd (Stems stems) files closed odd names =
-    (odd ≡ file_names (filter (is_sought stems.now) files) (filter (is_sought stems.now) closed))
+ShowsOdd (Items asked) files closed odd names =
+    (odd ≡ file_names (filter (is_sought (asks asked)) files) (filter (is_sought (asks asked)) closed))
     × IsPermutation odd (odd_names odd names)
 
 -- `list`: the names of the files of a folder that are sought, in any order, and others that what can't be opened bears:
@@ -208,16 +208,16 @@ ListedBoth sought names d =
     × ListsIn Cur sought (Ok names.1) moment (after_listing Cur moment moment)
     × Moved (without_taken moment) d
 
--- the names of both folders at one moment that have one of these stems: those of files, and those that what can't be
--- opened bears; and each file has a durable name
-pub record ToldBoth {A B : Type 0} (stems : List (String A)) (names odd : List (String B)) (d : Directories)
+-- the names of both folders at one moment whose stems are sought: those of files, and those that what can't be opened
+-- bears; and each file has a durable name
+pub record ToldBoth {A : Type 0} (seeks : List ℕ → Bool) (names odd : List (String A)) (d : Directories)
     : Type 0 where
   pub new_is_there : d.there.new ≡ true
   pub cur_is_there : d.there.cur ≡ true
-  pub lists : AreAmong stems (names_of (files_at d.entries)) (bases_told names)
+  pub lists : AreAmong seeks (names_of (files_at d.entries)) (bases_told names)
   pub named : AllNamed (files_at d.entries)
   pub odd_are : IsPermutation (odd_in_both d) (map string_bytes odd)
-  pub odd_sought : AllSought stems (odd_in_both d)
+  pub odd_sought : AllSought seeks (odd_in_both d)
 
 -- one of the folders isn't there
 abbrev pub LacksOne : Directories → Type 0

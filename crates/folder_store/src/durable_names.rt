@@ -1,12 +1,12 @@
 //! What a Maildir does to its folders in several calls.
 
 ghost use Rattle.std.specs.Prelude.{IfErr, IfSome};
-ghost use Rattle.mail_store.specs.Fault.{IsDeviceFault};
+ghost use Rattle.mail_store.specs.{Fault.IsDeviceFault, Held.asks};
 ghost use Rattle.folder_store.specs.MailCalls.{ListedBoth, PutsDurably, TellsOfBoth, TellsOne, ToldBoth};
 
 use crate::file_folder::NewFile;
 use crate::mail_folders::{FoundNames, MailFolders, Sought};
-use mail_store::{Folder, StoreFault};
+use mail_store::{Asked, Folder, StoreFault};
 
 /// How many times the folders are listed for one answer.
 const MOST_LISTINGS: u32 = 100;
@@ -50,17 +50,18 @@ pub fn list_both<F: MailFolders>(
     Err(StoreFault::Refused)
 }
 
-/// What the names of `new` and of `cur` at one moment that have one of these stems lead to, once all are durable.
+/// What the names of `new` and of `cur` at one moment that have the stem of an item that is asked for lead to, once
+/// all are durable.
 pub fn told_names<F: MailFolders>(
     folders: &mut F,
-    stems: &[String],
+    asked: Asked<'_>,
 ) -> Result<FoundNames, StoreFault>
     ensures tells { F.sound folders.new → F.sound folders.old
         × TellsOfBoth (F.directories folders.old) result (F.directories folders.new)
-        (λ found. ToldBoth stems.now found.files.items found.odd.items) }
+        (λ found. ToldBoth (asks asked.entry) found.files.items found.odd.items) }
     ensures fault { IfErr result IsDeviceFault }
 {
-    let (in_new, in_cur) = list_both(folders, Sought::Stems(stems))?;
+    let (in_new, in_cur) = list_both(folders, Sought::Items(asked))?;
     folders.flush_names(Folder::New)?;
     folders.flush_names(Folder::Cur)?;
     folders.files_among(in_new, in_cur)

@@ -4,9 +4,9 @@ ghost use Rattle.std.specs.{Prelude.{◌≡◌, ◌≢◌, pos}, Duration.as_nan
 ghost use Rattle.folder_store.specs.ExactListing.{IsExactListing, left_of};
 
 use crate::mail_folders::Sought;
-use mail_store::stem;
+use mail_store::Asked;
 use std::alloc::{AllocError, Global};
-use std::collections::BTreeSet;
+use std::cmp::Ordering;
 use std::fs::Metadata;
 use std::io::Read;
 use std::os::unix::fs::MetadataExt;
@@ -78,7 +78,7 @@ impl ChangeTime {
 /// The names of a folder, and the folder's metadata just before they were listed.
 #[derive(Drop)]
 pub struct FolderNames {
-    /// Each name that is sought once, in any order.
+    /// Each name that is wanted once, in any order.
     pub names: Vec<String>,
     /// The folder, whose time of change was the same before and after the listing.
     pub folder: Metadata,
@@ -157,63 +157,132 @@ fn listing_of(before: ChangeTime, after: ChangeTime, passed: Duration) -> Listin
     }
 }
 
-/// What two texts begin with alike.
-fn shared_front<'b>(one: &'b [u8], other: &[u8]) -> &'b [u8] {
-    let octets = one.iter().zip(other);
-    &one[..octets.take_while(|(octet, same)| octet == same).count()]
+/// Which names of a folder are wanted.
+#[derive(Clone, Copy)]
+pub enum Wanted<'a> {
+    All,
+    /// Those with the stem of an item that is asked for.
+    Items(Asked<'a>),
+    /// Those with one of these stems.
+    Stems(&'a [String]),
 }
 
-/// These texts, to be looked up.
-fn set_of<'b>(alloc: Global, texts: &'b [String]) -> Result<BTreeSet<&'b str>, AllocError> {
-    let mut set = BTreeSet::new(alloc);
-    for text in texts {
-        set.insert(text.as_str())?;
+impl<'a> Wanted<'a> {
+    /// The names that are sought.
+    pub fn of(sought: Sought<'a>) -> Wanted<'a> {
+        match sought {
+            Sought::All => Wanted::All,
+            Sought::Items(asked) => Wanted::Items(asked),
+        }
     }
-    Ok(set)
+
+    /// What the stem of each of them begins with.
+    fn front(self) -> &'a [u8] {
+        match self {
+            Wanted::All => b"".as_slice(),
+            Wanted::Items(asked) => asked.account.as_str().as_bytes(),
+            Wanted::Stems(stems) => shared_front(stems),
+        }
+    }
+
+    /// The ids of the items or the stems, in order.
+    fn keys(self, alloc: Global) -> Result<Vec<&'a [u8]>, AllocError> {
+        let mut keys = match self {
+            Wanted::All => Vec::new(alloc),
+            Wanted::Items(asked) => ids_of(alloc, asked)?,
+            Wanted::Stems(stems) => stems.iter().map(|stem| stem.as_bytes()).collect(alloc)?,
+        };
+        keys.sort_unstable();
+        Ok(keys)
+    }
 }
 
-/// The names that are sought, so that each name of a folder can be looked up.
+/// The ids of the items that are asked for.
+fn ids_of<'a>(alloc: Global, asked: Asked<'a>) -> Result<Vec<&'a [u8]>, AllocError> {
+    let mut ids = Vec::new(alloc);
+    for i in 0..asked.listing.len() {
+        if asked.flags.get(i as usize).copied().unwrap_or(false) {
+            ids.push(asked.listing.uid(i))?;
+        }
+    }
+    Ok(ids)
+}
+
+/// What these texts begin with alike.
+fn shared_front(texts: &[String]) -> &[u8] {
+    let mut front = texts.first().map_or(b"".as_slice(), |text| text.as_bytes());
+    for text in texts {
+        let octets = front.iter().zip(text.as_bytes());
+        front = &front[..octets.take_while(|(octet, same)| octet == same).count()];
+    }
+    front
+}
+
+/// The stem of a name.
+fn stem_in(name: &[u8]) -> &[u8] {
+    name.split(|octet| *octet == b':' || *octet == b',')
+        .next()
+        .unwrap_or(name)
+}
+
+/// The lower-case hexadecimal digits of an octet.
+fn digits_of(octet: u8) -> [u8; 2] {
+    let digits = b"0123456789abcdef";
+    [digits[(octet / 16) as usize], digits[(octet % 16) as usize]]
+}
+
+/// How the digits of an id, in lower-case hexadecimal, compare with these.
+fn compare_digits(id: &[u8], digits: &[u8]) -> Ordering {
+    for (octet, pair) in id.iter().zip(digits.chunks(2)) {
+        let order = digits_of(*octet).as_slice().cmp(pair);
+        if order != Ordering::Equal {
+            return order;
+        }
+    }
+    id.len().cmp(&digits.len().div_ceil(2))
+}
+
+/// What is wanted, so that each name of a folder can be looked up.
 #[derive(Drop)]
 struct Search<'b> {
-    sought: Sought<'b>,
-    /// What the stem of each begins with.
+    wanted: Wanted<'b>,
     front: &'b [u8],
-    /// The stems, if they are sought and a name that begins so was seen.
-    stems: Option<BTreeSet<&'b str>>,
+    /// The keys, once a name that begins with the front was seen.
+    keys: Option<Vec<&'b [u8]>>,
 }
 
 impl<'b> Search<'b> {
-    fn new(sought: Sought<'b>) -> Search<'b> {
-        let mut front = b"".as_slice();
-        if let Sought::Stems(stems) = sought {
-            front = stems.first().map_or(front, |stem| stem.as_bytes());
-            for stem in stems {
-                front = shared_front(front, stem.as_bytes());
-            }
-        }
+    fn new(wanted: Wanted<'b>) -> Search<'b> {
         Search {
-            sought,
-            front,
-            stems: None,
+            wanted,
+            front: wanted.front(),
+            keys: None,
         }
     }
 
-    /// Whether a stem is one of those that are sought.
-    fn has(&mut self, alloc: Global, stem: &str) -> Result<bool, AllocError> {
-        let Sought::Stems(texts) = self.sought else {
-            return Ok(true);
+    /// Whether a name that begins with the front is wanted.
+    fn has(&mut self, alloc: Global, name: &[u8]) -> Result<bool, AllocError> {
+        if self.keys.is_none() {
+            self.keys = Some(self.wanted.keys(alloc)?);
+        }
+        let Some(keys) = self.keys.as_ref() else {
+            return Ok(false);
         };
-        if self.stems.is_none() {
-            self.stems = Some(set_of(alloc, texts)?);
-        }
-        Ok(
-            self.stems
-                .as_ref()
-                .is_some_and(|stems| stems.contains(stem)),
-        )
+        let found = match self.wanted {
+            Wanted::All => return Ok(true),
+            Wanted::Stems(_) => {
+                let stem = stem_in(name);
+                keys.binary_search_by(|key| (*key).cmp(stem))
+            }
+            Wanted::Items(_) => match stem_in(&name[self.front.len().min(name.len())..]) {
+                [b'.', digits @ ..] => keys.binary_search_by(|key| compare_digits(*key, digits)),
+                _ => return Ok(false),
+            },
+        };
+        Ok(found.is_ok())
     }
 
-    /// Adds those of the names that are sought. Each is ended by a NUL; readers look at none that begins with a
+    /// Adds those of the names that are wanted. Each is ended by a NUL; readers look at none that begins with a
     /// full stop, and one that isn't UTF-8 is skipped.
     fn add(
         &mut self,
@@ -225,8 +294,8 @@ impl<'b> Search<'b> {
             if name.is_empty() || name.starts_with(b".") || !name.starts_with(self.front) {
                 continue;
             }
-            if let Ok(name) = str::from_utf8(name) {
-                if self.has(alloc, stem(name))? {
+            if self.has(alloc, name)? {
+                if let Ok(name) = str::from_utf8(name) {
                     found.push(String::from_str(alloc, name)?)?;
                 }
             }
@@ -235,7 +304,7 @@ impl<'b> Search<'b> {
     }
 }
 
-/// The names sought that one pass through a folder finds. If names change meanwhile, the system may leave
+/// The names wanted that one pass through a folder finds. If names change meanwhile, the system may leave
 /// out a file that is there all the time; and on tmpfs it finds a renamed file again, so a pass
 /// ends early once the folder isn't as it was seen.
 fn pass_through<R: Files + Clock + AllocGlobal>(
@@ -264,7 +333,7 @@ fn pass_through<R: Files + Clock + AllocGlobal>(
     Ok(found)
 }
 
-/// The names of a folder that are sought, at one moment between the call and its end: none is left out and none
+/// The names of a folder that are wanted, at one moment between the call and its end: none is left out and none
 /// occurs twice, although others make, remove and rename files in it meanwhile. Names that begin
 /// with a full stop and names that aren't UTF-8 are skipped.
 ///
@@ -278,9 +347,9 @@ fn pass_through<R: Files + Clock + AllocGlobal>(
 pub fn list_names<R: Files + Clock + AllocGlobal>(
     system: &System<'_, R>,
     path: &str,
-    sought: Sought<'_>,
+    wanted: Wanted<'_>,
 ) -> Result<FolderNames, Denial> {
-    let mut search = Search::new(sought);
+    let mut search = Search::new(wanted);
     let start = system.asked("clock_gettime", path, system.rt.monotonic())?;
     let mut seen = Sighting::now(system, path)?;
     for _ in 0..MOST_LISTINGS {

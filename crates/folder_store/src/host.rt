@@ -4,11 +4,10 @@ ghost use Rattle.std.specs.Prelude.{◌≡◌, ◌≤◌, length, IfErr, IfOk, O
 ghost use Rattle.mail_store.specs.Fault.{IsDeviceFault};
 ghost use Rattle.folder_store.specs.FileFolder.{empty_made, unknown_directory};
 
-use crate::exact_listing::{FolderNames, list_names};
+use crate::exact_listing::{FolderNames, Wanted, list_names};
 use crate::file_folder::{FileFolder, FolderState, NewFile};
 use crate::handles::{Changed, Handles, Names, bytes_in, piece_in};
 use crate::host_paths::HostPaths;
-use crate::mail_folders::Sought;
 use crate::process_mark::ProcessMark;
 use crate::system::{folder_of, make_file, sweep};
 use mail_store::{Edges, StoreFault};
@@ -384,9 +383,9 @@ impl<'a, R: Files + Clock + AllocGlobal + Clone + Drop> HostFolder<'a, R> {
         }
     }
 
-    // The names of the folder that are sought, whatever they lead to.
-    pub(crate) fn read_names(&self, sought: Sought<'_>) -> Result<FolderNames, Denial> {
-        list_names(self.system, self.paths.folder_path()?.as_str(), sought)
+    // The names of the folder that are wanted, whatever they lead to.
+    pub(crate) fn read_names(&self, wanted: Wanted<'_>) -> Result<FolderNames, Denial> {
+        list_names(self.system, self.paths.folder_path()?.as_str(), wanted)
     }
 }
 

@@ -3,7 +3,7 @@
 ghost use Rattle.std.specs.{Prelude.{◌≡◌, ◌<◌, ◌↔◌, IsTrue, Ok, Some, false, true}, Duration.as_nanos};
 ghost use Rattle.folder_store.specs.MailFolders.{unknown_directories};
 
-use crate::exact_listing::ChangeTime;
+use crate::exact_listing::{ChangeTime, Wanted};
 use crate::file_folder::FileFolder;
 use crate::flush_pass::{Found, unsettled};
 use crate::host::{HostFolder, HostNewFile, answer_of};
@@ -115,11 +115,11 @@ impl<'a, R: Files + Clock + AllocGlobal + Clone + Drop> HostFolders<'a, R> {
         }
     }
 
-    // Flushes the files with one of these stems, all of which are sought, that both folders have at one moment. If
+    // Flushes the files with one of these stems, all of which are wanted, that both folders have at one moment. If
     // `new` changed while they were listed, a reader may have moved one past the listing: then none counts as found.
-    fn sync_pass(&self, sought: Sought<'_>, stems: &[&str]) -> Result<Vec<Found>, Denial> {
-        let in_new = self.new_folder.host.read_names(sought)?;
-        let in_cur = self.cur_folder.host.read_names(sought)?;
+    fn sync_pass(&self, wanted: Wanted<'_>, stems: &[&str]) -> Result<Vec<Found>, Denial> {
+        let in_new = self.new_folder.host.read_names(wanted)?;
+        let in_cur = self.cur_folder.host.read_names(wanted)?;
         let now = self.new_folder.host.look_at_folder()?;
         if ChangeTime::of(&in_new.folder) != ChangeTime::of(&now) {
             return Ok(Vec::new(self.system.alloc()));
@@ -148,7 +148,7 @@ impl<'a, R: Files + Clock + AllocGlobal + Clone + Drop> HostFolders<'a, R> {
     {
         let mut left = texts_of(self.system.alloc(), stems)?;
         for _ in 0..MOST_PASSES {
-            let found = self.sync_pass(Sought::Stems(stems), &left)?;
+            let found = self.sync_pass(Wanted::Stems(stems), &left)?;
             left = unsettled(self.system.alloc(), &left, &found)?;
             if left.is_empty() {
                 return Ok(true);
@@ -312,7 +312,7 @@ impl<'a, R: Files + Clock + AllocGlobal + Clone + Drop> MailFolders for HostFold
     fn list(&mut self, folder: Folder, sought: Sought<'_>) -> Result<Vec<String>, StoreFault> {
         let refusals = self.system.refusals;
         let listed = self.folder_mut(folder);
-        let found = answer_of(refusals, listed.host.read_names(sought))?;
+        let found = answer_of(refusals, listed.host.read_names(Wanted::of(sought)))?;
         listed.change = Some(ChangeTime::of(&found.folder));
         Ok(found.names)
     }

@@ -1,15 +1,16 @@
 //! What a Maildir asks of the file system that keeps it.
 
 use crate::file_folder::NewFile;
-use mail_store::{Folder, StoreFault};
+use mail_store::{Asked, Folder, StoreFault};
 
 /// Which names a listing tells.
 #[derive(Clone, Copy)]
 pub enum Sought<'a> {
     /// All, whatever they lead to: each counts as that of a file.
     All,
-    /// Those with one of these stems. What can't be opened is no file (see `MailFolders::files_among`).
-    Stems(&'a [String]),
+    /// Those with the stem of an item that is asked for. What can't be opened is no file (see
+    /// `MailFolders::files_among`).
+    Items(Asked<'a>),
 }
 
 /// What names that were listed lead to.

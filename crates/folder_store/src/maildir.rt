@@ -14,7 +14,7 @@ use crate::host_folders::HostFolders;
 use crate::mail_folders::MailFolders;
 use crate::process_mark::ProcessMark;
 use crate::tally::tally;
-use mail_store::{AccountId, Folder, MaildirDisk, StoreFault, admit, refuse};
+use mail_store::{AccountId, Asked, Folder, MaildirDisk, StoreFault, admit, refuse};
 use mail_terms::FailureCount;
 use std::alloc::Global;
 use std::rt::Files;
@@ -124,9 +124,9 @@ impl<N: NewFile + Drop, F: MailFolders<File = N> + Drop> MaildirDisk for FolderM
         tally(&mut self.failures, told_names_of(&mut self.folders, folder))
     }
 
-    fn names_among(&mut self, stems: &[String]) -> Result<Vec<String>, StoreFault> {
+    fn names_among(&mut self, asked: Asked<'_>) -> Result<Vec<String>, StoreFault> {
         admit(&self.failures)?;
-        let found = tally(&mut self.failures, told_names(&mut self.folders, stems))?;
+        let found = tally(&mut self.failures, told_names(&mut self.folders, asked))?;
         self.odd = found.odd;
         Ok(found.files)
     }

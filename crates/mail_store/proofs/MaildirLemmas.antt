@@ -32,7 +32,7 @@ use Rattle.mail_store.specs.{
   declared.maildir.disk.Folder.{Folder, TheVariants.{New, Cur}},
   MemoryMaildir.{MemoryMail, files_of_folder, shown},
   Held.{AreAmong, FoundDurable, HasDurable, HasStem, HasStems, any_name, flags_asked, flags_of, flags_sought, is_sought, odd_flags},
-  Held.{ToldAreOdd, sought_among},
+  Held.{ToldAreOdd, is_asked, sought_among},
   Loss.{with_flushed, flushed_by, is_among},
 }
 
@@ -348,43 +348,66 @@ odd_found account maildir _ found names texts told are = simp (odd_by_names acco
 -- ---- the names with some stems
 
 -- a base has one of them exactly if its name has
-pub sought_bases : {A : Type 0} (stems : List (String A)) (names : List (List ℕ))
-    → map base (filter (is_sought stems) names) ≡ filter (is_sought stems) (map base names)
+pub sought_bases : (seeks : List ℕ → Bool) (names : List (List ℕ))
+    → map base (filter (is_sought seeks) names) ≡ filter (is_sought seeks) (map base names)
 sought_bases _ [] = refl
-sought_bases stems (name ∷ names) = let rest = sought_bases stems names in let same = stem_base name in grind (arith, rest, same)
+sought_bases seeks (name ∷ names) = let rest = sought_bases seeks names in let same = stem_base name in grind (arith, rest, same)
 
 -- the names that have one of these stems tell all of these
-pub told_sought : {A B : Type 0} (stems : List (String A)) (files : List File) (kept : List (String B))
-    → map string_bytes kept ≡ filter (is_sought stems) (names_of files) → AreAmong stems (names_of (map shown files)) (bases_told kept)
-told_sought stems files kept is = (
+pub told_sought : {A : Type 0} (seeks : List ℕ → Bool) (files : List File) (kept : List (String A))
+    → map string_bytes kept ≡ filter (is_sought seeks) (names_of files) → AreAmong seeks (names_of (map shown files)) (bases_told kept)
+told_sought seeks files kept is = (
   names_of (map shown files),
   IsPermutation-refl (names_of (map shown files)),
-  cc (map-map base string_bytes kept, sought_bases stems (names_of files), map-map base name_in files, map-map name_in shown files),
+  cc (map-map base string_bytes kept, sought_bases seeks (names_of files), map-map base name_in files, map-map name_in shown files),
 )
 
+-- whether the item at a place is asked for and has this stem
+abbrev pub asks_at : List ℕ → List ℕ → List Item → List Bool → ℕ → Bool
+asks_at account text items flags k =
+    get_or flags k false && bytes_eq (stem_of account (get_or items k (record { uid = []; size = 0 })).uid) text
+
+pub asked_at : (account text : List ℕ) (items : List Item) (flags : List Bool) (k : ℕ) → k < length items → k < length flags
+    → asks_at account text items flags k ≡ true → is_asked account items flags text ≡ true
+asked_at _ _ [] _ _ below _ _ = absurd (omega (arith, below))
+asked_at _ _ (_ ∷ _) [] _ _ below _ = absurd (omega (arith, below))
+asked_at _ _ (_ ∷ _) (_ ∷ _) zero _ _ is = rw is refl
+asked_at account text (_ ∷ items) (_ ∷ flags) (suc k) a b is =
+    rw (asked_at account text items flags k (omega (arith, a)) (omega (arith, b)) is) (or-true _)
+
+pub asked_nowhere : (account text : List ℕ) (items : List Item) (flags : List Bool)
+    → ((k : ℕ) → k < length items → k < length flags → asks_at account text items flags k ≡ false)
+    → is_asked account items flags text ≡ false
+asked_nowhere _ _ [] _ _ = refl
+asked_nowhere _ _ (_ ∷ _) [] _ = refl
+asked_nowhere account text (_ ∷ items) (_ ∷ flags) none = rw (
+  none 0 (omega arith) (omega arith),
+  asked_nowhere account text items flags (λ k a b. none (suc k) (omega (arith, a)) (omega (arith, b))),
+) refl
+
 -- the digits in the stems of the names show which of the items that are asked for are held
-pub flags_among : {A B : Type 0} (account : List ℕ) (maildir : Maildir) (stems : List (String A)) (items : List Item)
-    (flags : List Bool) (found : List ℕ → Bool) (names : List (String B))
-    → ((q : List ℕ) → found q ≡ any_name account q names) → AreAmong stems (names_of maildir.files) (bases_told names)
-    → HasStems account items flags flags (length items) stems → sought_among found items flags ≡ flags_sought account maildir items flags
-flags_among account maildir stems [] flags found names texts told has = refl
-flags_among account maildir stems (item ∷ items) [] found names texts told has = refl
-flags_among account maildir stems (item ∷ items) (false ∷ flags) found names texts told has =
-    ap (λ (bs : List Bool). false ∷ bs) (flags_among account maildir stems items flags found names texts told
-    (λ k below. has (suc k) (omega (arith, below))))
-flags_among {A} {B} account maildir stems (item ∷ items) (true ∷ flags) found names texts (order, same, told) has =
+pub flags_among : {A : Type 0} (account : List ℕ) (maildir : Maildir) (seeks : List ℕ → Bool) (items : List Item)
+    (flags : List Bool) (found : List ℕ → Bool) (names : List (String A))
+    → ((q : List ℕ) → found q ≡ any_name account q names) → AreAmong seeks (names_of maildir.files) (bases_told names)
+    → ((text : List ℕ) → is_asked account items flags text ≡ true → seeks text ≡ true)
+    → sought_among found items flags ≡ flags_sought account maildir items flags
+flags_among account maildir seeks [] flags found names texts told has = refl
+flags_among account maildir seeks (item ∷ items) [] found names texts told has = refl
+flags_among account maildir seeks (item ∷ items) (false ∷ flags) found names texts told has =
+    ap (λ (bs : List Bool). false ∷ bs) (flags_among account maildir seeks items flags found names texts told has)
+flags_among {A} account maildir seeks (item ∷ items) (true ∷ flags) found names texts (order, same, told) has =
     rw (
-      held (has 0 (omega arith) item (λ d. refl) (λ d. refl) (λ d. refl)),
-      flags_among account maildir stems items flags found names texts (order, same, told) (λ k below. has (suc k) (omega (arith, below))),
+      held (has (stem_of account item.uid) (rw ((bytes_eq-Decides (stem_of account item.uid) _).1 refl) refl)),
+      flags_among account maildir seeks items flags found names texts (order, same, told) (λ text is. has text (rw is (or-true _))),
     ) refl
   where
-    held : is_among stems (stem_of account item.uid) ≡ true → found (encode_lower item.uid) ≡ is_held account maildir item.uid
+    held : seeks (stem_of account item.uid) ≡ true → found (encode_lower item.uid) ≡ is_held account maildir item.uid
     held among =
         let ids = names_id account item.uid in
-        let of_one : (name : List ℕ) → ids name ≡ true → is_sought stems name ≡ true =
+        let of_one : (name : List ℕ) → ids name ≡ true → is_sought seeks name ≡ true =
         λ name is. rw (← (bytes_eq-Decides (stem_of account item.uid) (stem name)).0 is, among) refl in
         let any = list_any-IsPermutation ids (names_of maildir.files) order same
-        ∙ sym (any-filter_same ids (is_sought stems) true of_one order) ∙ ap (list_any ids) (sym told) in
+        ∙ sym (any-filter_same ids (is_sought seeks) true of_one order) ∙ ap (list_any ids) (sym told) in
         texts (encode_lower item.uid) ∙ sym (simp (any_map, stem_base) at any)
 
 -- of one item more

@@ -1,7 +1,7 @@
 -- What `held` answers for a Maildir.
 use Rattle.std.specs.{
   Prelude.{◌≡◌, ℕ, List, map, Bool, true, false, Result, Ok, Err, Vec, ◌⊎◌, OnOk, [], ◌∷◌, ◌++◌, ◌&&◌, bytes_eq, ◌<◌},
-  Prelude.{String, string_bytes, Contains, HoldsAt, IsPermutation, if◌then◌else◌},
+  Prelude.{String, string_bytes, Contains, HoldsAt, IsPermutation, if◌then◌else◌, zip},
   List.{AllByRecursion, filter, list_any},
   Borrow.Bor,
   Ordering.nat_cmp,
@@ -11,7 +11,7 @@ use Rattle.std.specs.{
 use Rattle.hex.specs.Hex.{encode_lower}
 use Rattle.mail_terms.specs.Listing.{Item}
 use Rattle.mail_store.specs.{
-  declared.fault.StoreFault.{StoreFault, TheVariants.{Missing, Refused, NotMbox, NoMemory}},
+  declared.{fault.StoreFault.{StoreFault, TheVariants.{Missing, Refused, NotMbox, NoMemory}}, maildir.disk.Asked.Asked},
   Loss.is_among,
   Maildir.{AllNamed, File, IsDurableFile, Maildir, bases_told, maildir_refused, names_of},
   FileName.{is_held, is_odd, names_id, stem, stem_of},
@@ -84,25 +84,33 @@ FindsDurable all account old items flags result new =
 
 -- ---- names
 
--- whether a name has one of these stems
-abbrev pub is_sought : {A : Type 0} → List (String A) → List ℕ → Bool
-is_sought stems name = is_among stems (stem name)
+-- whether a text is the stem of an item that is asked for
+abbrev pub is_asked : List ℕ → List Item → List Bool → List ℕ → Bool
+is_asked account items flags text =
+    list_any (λ asked. asked.1 && bytes_eq (stem_of account asked.0.uid) text) (zip items flags)
 
--- of these names, in some order, those alone that have one of these stems
-abbrev pub AreAmong : {A : Type 0} → List (String A) → List (List ℕ) → List (List ℕ) → Type 0
-AreAmong stems names told =
-    (order : List (List ℕ)) × IsPermutation names order × (told ≡ filter (is_sought stems) order)
+abbrev pub asks : Asked → List ℕ → Bool
+asks asked text = is_asked asked.account.now asked.listing.now asked.flags.now text
 
--- `names_among`: the name of each file of `new` and `cur` that has one of these stems, in any order; each is durable.
--- The odd names that it tells are exactly those with these stems that what can't be opened bears there, in any order
-abbrev pub ListsAmong : {A B C : Type 0} → Maildir → List (String A) → Result (Vec (String B) C) StoreFault → Maildir
+-- whether the stem of a name is sought
+abbrev pub is_sought : (List ℕ → Bool) → List ℕ → Bool
+is_sought seeks name = seeks (stem name)
+
+-- of these names, in some order, those alone whose stems are sought
+abbrev pub AreAmong : (List ℕ → Bool) → List (List ℕ) → List (List ℕ) → Type 0
+AreAmong seeks names told =
+    (order : List (List ℕ)) × IsPermutation names order × (told ≡ filter (is_sought seeks) order)
+
+-- `names_among`: the name of each file of `new` and `cur` whose stem is sought, in any order; each is durable. The odd
+-- names that it tells are exactly those with such stems that what can't be opened bears there, in any order
+abbrev pub ListsAmong : {A B : Type 0} → Maildir → (List ℕ → Bool) → Result (Vec (String A) B) StoreFault → Maildir
     → Type 0
-ListsAmong old stems (Ok names) new = (old.there.new ≡ true) × (old.there.cur ≡ true)
-    × AreAmong stems (names_of old.files) (bases_told names.items) × AllNamed old.files × (new ≡ old)
-    × ToldAreOdd old × AllByRecursion (λ name. is_sought stems name ≡ true) old.odd
-ListsAmong old stems (Err Missing) new = ((old.there.new ≡ false) ⊎ (old.there.cur ≡ false)) × (new ≡ old)
-ListsAmong old stems (Err Refused) new = new ≡ maildir_refused old
-ListsAmong old stems (Err fault) new = ⊥
+ListsAmong old seeks (Ok names) new = (old.there.new ≡ true) × (old.there.cur ≡ true)
+    × AreAmong seeks (names_of old.files) (bases_told names.items) × AllNamed old.files × (new ≡ old)
+    × ToldAreOdd old × AllByRecursion (λ name. is_sought seeks name ≡ true) old.odd
+ListsAmong old seeks (Err Missing) new = ((old.there.new ≡ false) ⊎ (old.there.cur ≡ false)) × (new ≡ old)
+ListsAmong old seeks (Err Refused) new = new ≡ maildir_refused old
+ListsAmong old seeks (Err fault) new = ⊥
 
 -- whether the flag of each item is set and its id's digits pass, in order
 abbrev pub sought_among : (List ℕ → Bool) → List Item → List Bool → List Bool

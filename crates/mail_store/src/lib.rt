@@ -14,7 +14,7 @@ pub use file::flat_file::{Edges, FlatFile, calls_are_durable, durable_files_are_
 pub use file::memory::MemoryFile;
 pub use file::reading::{edges_of, read_piece};
 pub use maildir::delivery::deliver;
-pub use maildir::disk::{Folder, MaildirDisk};
+pub use maildir::disk::{Asked, Folder, MaildirDisk};
 pub use maildir::held::{Query, flags_tell_what_is_held, flush_held, held, held_asked, odd_flags};
 pub use maildir::loss::{
     calls_keep_files_flushed, calls_leave_no_more, losses_leave_what_is_durable,

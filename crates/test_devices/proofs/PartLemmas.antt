@@ -1,5 +1,5 @@
 -- Files that readers took, behind a fuse too, and bytes that may be left.
-use Rattle.std.proofs.Common.{◌≡◌, ◌+◌, ◌<◌, ℕ, List, refl, ap, arith, Result, Ok, Err, Vec, String}
+use Rattle.std.proofs.Common.{◌≡◌, ◌+◌, ◌<◌, ℕ, Bool, List, refl, ap, arith, Result, Ok, Err, Vec, String}
 use Rattle.mail_terms.specs.FailureCount.{Tallies, counted_up, greatest_count, refuses}
 use Rattle.mail_store.specs.{
   declared.{fault.StoreFault.{StoreFault, TheVariants.{Missing, Refused}}, maildir.disk.Folder.Folder},
@@ -33,14 +33,14 @@ module _ (n m : ℕ) (below : n < greatest_count) where
     lists left folder (Err Refused) count same = rw (same, counted_one count) refl
     lists left folder (Err _) count never = absurd never
 
-    lists_among : {C : Type 0} (stems : List (String C)) (left : Maildir) (r : Result (Vec (String A) B) StoreFault)
-        → Tallies (refuses is_refusal r) n m → ListsAmong left stems r new
-        → ListsAmong (record left { failures = n }) stems r (record new { failures = m })
-    lists_among stems left (Ok names) count (in_new, in_cur, among, named, same, told, sought) =
+    lists_among : (seeks : List ℕ → Bool) (left : Maildir) (r : Result (Vec (String A) B) StoreFault)
+        → Tallies (refuses is_refusal r) n m → ListsAmong left seeks r new
+        → ListsAmong (record left { failures = n }) seeks r (record new { failures = m })
+    lists_among seeks left (Ok names) count (in_new, in_cur, among, named, same, told, sought) =
         (in_new, in_cur, among, named, rw (same, count) refl, told, sought)
-    lists_among stems left (Err Missing) count (lacks, same) = (lacks, rw (same, count) refl)
-    lists_among stems left (Err Refused) count same = rw (same, counted_one count) refl
-    lists_among stems left (Err _) count never = absurd never
+    lists_among seeks left (Err Missing) count (lacks, same) = (lacks, rw (same, count) refl)
+    lists_among seeks left (Err Refused) count same = rw (same, counted_one count) refl
+    lists_among seeks left (Err _) count never = absurd never
 
     pub fused_lists : (folder : Folder) (r : Result (Vec (String A) B) StoreFault) → Tallies (refuses is_refusal r) n m
         → AfterTaking old (λ left. Lists left folder r new)
@@ -48,8 +48,8 @@ module _ (n m : ℕ) (below : n < greatest_count) where
     fused_lists folder r count (left, taken, does) =
         (record left { failures = n }, taken_behind old left taken, lists left folder r count does)
 
-    pub fused_lists_among : {C : Type 0} (stems : List (String C)) (r : Result (Vec (String A) B) StoreFault)
-        → Tallies (refuses is_refusal r) n m → AfterTaking old (λ left. ListsAmong left stems r new)
-        → AfterTaking (record old { failures = n }) (λ left. ListsAmong left stems r (record new { failures = m }))
-    fused_lists_among stems r count (left, taken, does) =
-        (record left { failures = n }, taken_behind old left taken, lists_among stems left r count does)
+    pub fused_lists_among : (seeks : List ℕ → Bool) (r : Result (Vec (String A) B) StoreFault)
+        → Tallies (refuses is_refusal r) n m → AfterTaking old (λ left. ListsAmong left seeks r new)
+        → AfterTaking (record old { failures = n }) (λ left. ListsAmong left seeks r (record new { failures = m }))
+    fused_lists_among seeks r count (left, taken, does) =
+        (record left { failures = n }, taken_behind old left taken, lists_among seeks left r count does)

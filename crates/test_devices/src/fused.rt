@@ -2,7 +2,7 @@
 
 ghost use Rattle.mail_store.specs.Fault.{is_refusal};
 
-use mail_store::{Edges, FlatFile, Folder, MaildirDisk, StoreFault, admit, refuse};
+use mail_store::{Asked, Edges, FlatFile, Folder, MaildirDisk, StoreFault, admit, refuse};
 use mail_terms::FailureCount;
 
 /// A device that passes its first calls on to another one and then refuses every call, so that each
@@ -101,7 +101,7 @@ impl<D: MaildirDisk> MaildirDisk for Fused<D> {
     ghost use Rattle.std.specs.Prelude.{◌≡◌, ◌<◌, false, true, IfErr, IsSome, Ok, OnErr, OnOk, Some, None, map};
     ghost use Rattle.std.specs.Prelude.{string_bytes};
     ghost use Rattle.mail_terms.specs.FailureCount.{Tallies, refuses, greatest_count};
-    ghost use Rattle.mail_store.specs.{Fault.IsDeviceFault, Held.ListsAmong, Loss.Flushes};
+    ghost use Rattle.mail_store.specs.{Fault.IsDeviceFault, Held.{ListsAmong, asks}, Loss.Flushes};
     ghost use Rattle.mail_store.specs.Maildir.{AfterTaking, IsThere, Lists, Checks, Begins, Adds, Settles, dropped};
     ghost use Rattle.mail_store.specs.Maildir.{name_begun};
     ghost use Rattle.mail_store.specs.Devices.{DiskDoes, DiskRefuses};
@@ -124,15 +124,15 @@ impl<D: MaildirDisk> MaildirDisk for Fused<D> {
         self.tally(answer)
     }
 
-    fn names_among(&mut self, stems: &[String]) -> Result<Vec<String>, StoreFault>
+    fn names_among(&mut self, asked: Asked<'_>) -> Result<Vec<String>, StoreFault>
         ensures lists { DiskDoes ⟦<Fused<D> as MaildirDisk>⟧ (λ old new.
-            AfterTaking old (λ left. ListsAmong left stems.now result new)) self.old self.new }
+            AfterTaking old (λ left. ListsAmong left (asks asked.entry) result new)) self.old self.new }
         ensures fault { IfErr result IsDeviceFault }
         ensures count { Tallies (refuses is_refusal result) (refusals self.old) (refusals self.new) }
         ensures fuse { Fuses (λ d. (D.maildir d).failures) self.old result self.new }
     {
         self.pass()?;
-        let answer = self.device.names_among(stems);
+        let answer = self.device.names_among(asked);
         self.tally(answer)
     }
 

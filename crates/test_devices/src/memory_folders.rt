@@ -483,11 +483,11 @@ impl MemoryFolders {
             (closed_in folder self.now) (map string_bytes listed.1.items) (map string_bytes listed.0.items)) }
     {
         let names = names_in(self.alloc, &self.files, folder)?;
-        let Sought::Stems(stems) = sought else {
+        let Sought::Items(asked) = sought else {
             return Ok((names, Vec::new(self.alloc)));
         };
-        let mut names = sought_names(self.alloc, &names, stems)?;
-        let obstacles = sought_names(self.alloc, &self.obstacles, stems)?;
+        let mut names = sought_names(self.alloc, &names, asked)?;
+        let obstacles = sought_names(self.alloc, &self.obstacles, asked)?;
         let (_, odd) = parted(self.alloc, obstacles, &names)?;
         names.append(&mut odd.clone()?)?;
         Ok((names, odd))

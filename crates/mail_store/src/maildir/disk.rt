@@ -1,6 +1,8 @@
 //! Devices that keep a Maildir (<https://cr.yp.to/proto/maildir.html>).
 
+use crate::account::AccountId;
 use crate::fault::StoreFault;
+use mail_terms::Listing;
 
 /// A folder of a Maildir that readers look into.
 #[derive(Clone, Copy, Debug, PartialEq, Eq)]
@@ -9,6 +11,15 @@ pub enum Folder {
     New,
     /// Files that a reader has taken.
     Cur,
+}
+
+/// Items of an account's listing, of which it is asked whether they are held.
+#[derive(Clone, Copy)]
+pub struct Asked<'a> {
+    pub account: &'a AccountId,
+    pub listing: &'a Listing,
+    /// For each item, in the listing's order, whether it is asked for.
+    pub flags: &'a [bool],
 }
 
 /// A device that keeps a Maildir, and that can refuse any call.
@@ -26,7 +37,7 @@ pub trait MaildirDisk {
     ghost use Rattle.std.specs.Prelude.{◌≡◌, false, true, IfErr, IsSome, Ok, OnErr, OnOk, Some, None, map};
     ghost use Rattle.std.specs.Prelude.{string_bytes};
     ghost use Rattle.mail_terms.specs.FailureCount.{Tallies, refuses};
-    ghost use Rattle.mail_store.specs.{Fault.{is_refusal, IsDeviceFault}, Held.ListsAmong, Loss.Flushes};
+    ghost use Rattle.mail_store.specs.{Fault.{is_refusal, IsDeviceFault}, Held.{ListsAmong, asks}, Loss.Flushes};
     ghost use Rattle.mail_store.specs.Maildir.{Maildir, AfterTaking, IsThere, Lists, Checks, Begins, Adds, Settles};
     ghost use Rattle.mail_store.specs.Maildir.{dropped, name_begun};
 
@@ -47,11 +58,12 @@ pub trait MaildirDisk {
         ensures fault { IfErr result IsDeviceFault }
         ensures count { Tallies (refuses is_refusal result) (maildir self.old).failures (maildir self.new).failures };
 
-    /// Of the names of the files of `new` and `cur` those that have one of these stems (see `stem`), in any order: each
-    /// file once, even if a reader moves it meanwhile. Missing if `new` or `cur` isn't there, else Refused.
-    fn names_among(&mut self, stems: &[String]) -> Result<Vec<String>, StoreFault>
+    /// Of the names of the files of `new` and `cur` those that have the stem of an item that is asked for (see `stem`
+    /// and `file_stem`), in any order: each file once, even if a reader moves it meanwhile. Missing if `new` or `cur`
+    /// isn't there, else Refused.
+    fn names_among(&mut self, asked: Asked<'_>) -> Result<Vec<String>, StoreFault>
         ensures lists { sound self.new → sound self.old
-            × AfterTaking (maildir self.old) (λ left. ListsAmong left stems.now result (maildir self.new)) }
+            × AfterTaking (maildir self.old) (λ left. ListsAmong left (asks asked.entry) result (maildir self.new)) }
         ensures fault { IfErr result IsDeviceFault }
         ensures count { Tallies (refuses is_refusal result) (maildir self.old).failures (maildir self.new).failures };
 

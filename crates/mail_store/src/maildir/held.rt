@@ -14,7 +14,7 @@ ghost use Rattle.mail_store.specs.{
 
 use crate::account::AccountId;
 use crate::fault::StoreFault;
-use crate::maildir::disk::MaildirDisk;
+use crate::maildir::disk::{Asked, MaildirDisk};
 use crate::maildir::names;
 use mail_terms::Listing;
 use std::alloc::{AllocError, Global};
@@ -118,6 +118,9 @@ fn flags_sought(
 fn is_found(alloc: Global, found: &BTreeSet<&str>, uid: &[u8]) -> Result<bool, AllocError>
     ensures { IfOk result (λ is. is ≡ has_text found.now (encode_lower uid.now)) }
 {
+    if found.is_empty() {
+        return Ok(false);
+    }
     let digits = hex::encode(alloc, uid)?;
     Ok(found.contains(digits.as_str()))
 }
@@ -210,8 +213,12 @@ fn held_of<D: MaildirDisk>(
     ensures length { IfOk result (λ flags. vec_len flags ≡ length listing.now) }
     ensures fault { result ≢ Err StoreFault.NotMbox }
 {
-    let stems = stems_of(alloc, account, listing, flags, flags)?;
-    let names = disk.names_among(&stems)?;
+    let asked = Asked {
+        account,
+        listing,
+        flags,
+    };
+    let names = disk.names_among(asked)?;
     let mut found = BTreeSet::new(alloc);
     add_digits(&mut found, account.as_str(), &names)?;
     Ok(flags_sought(alloc, &found, listing, flags)?)

@@ -5,10 +5,10 @@ ghost use Rattle.std.specs.{
   List.filter,
   String.string_bytes,
 };
-ghost use Rattle.mail_store.specs.{Held.is_sought, Maildir.{names_of, memory_file}};
+ghost use Rattle.mail_store.specs.{Held.{asks, is_sought}, Maildir.{names_of, memory_file}};
 
 use crate::fault::StoreFault;
-use crate::maildir::disk::{Folder, MaildirDisk};
+use crate::maildir::disk::{Asked, Folder, MaildirDisk};
 use crate::maildir::names::sought_names;
 use crate::refusal::{admit, refuse};
 use mail_terms::FailureCount;
@@ -157,20 +157,20 @@ fn add_names(names: &mut Vec<String>, files: &[(String, Vec<u8>)]) -> Result<(),
     Ok(())
 }
 
-/// The names of the files of two folders that have one of these stems.
+/// The names of the files of two folders that have the stem of an item that is asked for.
 fn names_among(
     alloc: Global,
     cur: &[(String, Vec<u8>)],
     new: &[(String, Vec<u8>)],
-    stems: &[String],
+    asked: Asked<'_>,
 ) -> Result<Vec<String>, AllocError>
-    ensures { IfOk result (λ names. map string_bytes names.items
-        ≡ filter (is_sought stems.now) (names_of (map memory_file cur.now) ++ names_of (map memory_file new.now))) }
+    ensures { IfOk result (λ names. map string_bytes names.items ≡ filter (is_sought (asks asked.entry))
+        (names_of (map memory_file cur.now) ++ names_of (map memory_file new.now))) }
 {
     let mut names = Vec::new(alloc);
     add_names(&mut names, cur)?;
     add_names(&mut names, new)?;
-    sought_names(alloc, &names, stems)
+    sought_names(alloc, &names, asked)
 }
 
 /// The names of some files.
@@ -211,9 +211,9 @@ impl MaildirDisk for MemoryMaildir {
         }
     }
 
-    fn names_among(&mut self, stems: &[String]) -> Result<Vec<String>, StoreFault> {
+    fn names_among(&mut self, asked: Asked<'_>) -> Result<Vec<String>, StoreFault> {
         admit(&self.failures)?;
-        match names_among(self.alloc, &self.in_cur, &self.in_new, stems) {
+        match names_among(self.alloc, &self.in_cur, &self.in_new, asked) {
             Ok(names) => Ok(names),
             Err(_) => Err(refuse(&mut self.failures)),
         }

@@ -2,7 +2,7 @@
 
 ghost use Rattle.std.specs.{
   Prelude.{◌≡◌, false, ℕ, ◌≢◌, ◌≤◌, List, ◌∷◌, ◌++◌, length, ◌||◌, bytes_eq, IfOk, IfSome, IfNone, MatchOption, OnOk},
-  Prelude.{[], if◌then◌else◌, map, string_bytes},
+  Prelude.{[], ◌<◌, ◌&&◌, HoldsAt, if◌then◌else◌, map, string_bytes},
   List.filter,
 };
 ghost use Rattle.hex.specs.Hex.{encode_lower};
@@ -10,11 +10,12 @@ ghost use Rattle.mail_terms.specs.{UniqueId.IsLegalId, MaildirName.base};
 ghost use Rattle.mail_store.specs.{
   FileName.{HasRoomForSize, IsAccountText, NamesAreBases, NamesHaveStems, StemsAreStems, StemsDiffer, is_held, name_of},
   FileName.{longest_name, longest_stem, mail_file, sized, stem, stem_of},
-  Held.is_sought,
+  Held.{asks, is_sought},
   Maildir.{Maildir, IsThere, with_file},
 };
 
 use crate::account::AccountId;
+use crate::maildir::disk::Asked;
 use hex::FromHexError;
 use itoa::Buffer;
 use mail_terms::{base, is_legal_id, legal_ids_have_ranges};
@@ -93,37 +94,66 @@ pub fn stems_differ()
     legal_ids_have_ranges();
 }
 
-/// Whether a name has one of these stems.
-fn is_sought(stems: &[String], name: &str) -> bool
-    ensures { result ≡ is_sought stems.now name.now }
+/// Whether an item is asked for and has this stem.
+fn asks_at(alloc: Global, asked: Asked<'_>, i: u32, text: &str) -> Result<bool, AllocError>
+    requires listed { i < length asked.listing.now }
+    requires flagged { i < length asked.flags.now }
+    ensures { IfOk result (λ is. HoldsAt (λ item. HoldsAt (λ flag.
+        is ≡ (flag && bytes_eq (stem_of asked.entry.account.now item.uid) text.now))
+        asked.entry.flags.now i) asked.entry.listing.now i) }
 {
-    let text = stem(name);
-    stems.iter().any(|one| one.as_str() == text)
+    let stem = file_stem(alloc, asked.account, asked.listing.uid(i))?;
+    Ok(asked.flags[i as usize] && stem.as_str() == text)
 }
 
-/// Adds a name, if it has one of these stems.
-fn add_sought(kept: &mut Vec<String>, name: &String, stems: &[String]) -> Result<(), AllocError>
-    ensures { OnOk result (map string_bytes kept.new.items ≡ map string_bytes kept.old.items
-        ++ (if is_sought stems.now (string_bytes name.now) then string_bytes name.now ∷ [] else [])) }
+/// Whether a text is the stem of an item that is asked for.
+fn asks(alloc: Global, asked: Asked<'_>, text: &str) -> Result<bool, AllocError>
+    ensures { IfOk result (λ is. is ≡ asks asked.entry text.now) }
 {
-    if is_sought(stems, name.as_str()) {
+    let count = asked.flags.len().min(asked.listing.len() as usize);
+    for i in 0..count {
+        if asks_at(alloc, asked, i as u32, text)? {
+            return Ok(true);
+        }
+    }
+    Ok(false)
+}
+
+/// Whether a name has the stem of an item that is asked for.
+fn is_sought(alloc: Global, asked: Asked<'_>, name: &str) -> Result<bool, AllocError>
+    ensures { IfOk result (λ is. is ≡ is_sought (asks asked.entry) name.now) }
+{
+    asks(alloc, asked, stem(name))
+}
+
+/// Adds a name, if it has the stem of an item that is asked for.
+fn add_sought(
+    alloc: Global,
+    kept: &mut Vec<String>,
+    name: &String,
+    asked: Asked<'_>,
+) -> Result<(), AllocError>
+    ensures { OnOk result (map string_bytes kept.new.items ≡ map string_bytes kept.old.items
+        ++ (if is_sought (asks asked.entry) (string_bytes name.now) then string_bytes name.now ∷ [] else [])) }
+{
+    if is_sought(alloc, asked, name.as_str())? {
         kept.push(name.clone()?)?;
     }
     Ok(())
 }
 
-/// Those of some names that have one of these stems, in order.
+/// Those of some names that have the stem of an item that is asked for, in order.
 pub fn sought_names(
     alloc: Global,
     names: &[String],
-    stems: &[String],
+    asked: Asked<'_>,
 ) -> Result<Vec<String>, AllocError>
     ensures { IfOk result (λ kept. map string_bytes kept.items
-        ≡ filter (is_sought stems.now) (map string_bytes names.now)) }
+        ≡ filter (is_sought (asks asked.entry)) (map string_bytes names.now)) }
 {
     let mut kept = Vec::new(alloc);
     for name in names {
-        add_sought(&mut kept, name, stems)?;
+        add_sought(alloc, &mut kept, name, asked)?;
     }
     Ok(kept)
 }

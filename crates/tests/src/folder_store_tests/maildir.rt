@@ -1,8 +1,8 @@
 //! A Maildir in folders, asked for what no program asks of it.
 
+use crate::support::{listing_of, stem_of};
 use folder_store::{FolderMaildir, MailFolders};
-use mail_store::{Folder, MaildirDisk, StoreFault};
-use std::alloc::{AllocError, Global};
+use mail_store::{Asked, Folder, MaildirDisk, StoreFault, account_id};
 use std::test::Fail;
 use test_devices::MemoryFolders;
 
@@ -26,27 +26,29 @@ fn folders_that_are_there_are_found(rt: HostRuntime) -> Result<(), Fail> {
     Ok(())
 }
 
-fn one(alloc: Global, name: &str) -> Result<Vec<String>, AllocError> {
-    let mut names = Vec::new(alloc);
-    names.push(String::from_str(alloc, name)?)?;
-    Ok(names)
-}
-
 #[test]
 fn what_cant_be_opened_is_no_file(rt: HostRuntime) -> Result<(), Fail> {
     let alloc = rt.alloc();
+    let account = account_id("server", 110, "user");
+    let listing = listing_of(alloc, &[("file", 1), ("odd", 1), ("other", 1)])?;
+    let file = stem_of(alloc, &account, "file")?;
+    let odd = stem_of(alloc, &account, "odd")?;
     let mut folders = MemoryFolders::new(alloc, Vec::new(alloc));
-    let file = folders.make("file")?;
-    folders.put(file, "file")?;
-    folders.obstruct("odd")?;
-    folders.obstruct("file")?;
+    let made = folders.make("file")?;
+    folders.put(made, file.as_str())?;
+    folders.obstruct(odd.as_str())?;
+    folders.obstruct(file.as_str())?;
     let mut disk = FolderMaildir::over(alloc, folders);
-    let odd = one(alloc, "odd")?;
-    let names = disk.names_among(&odd)?;
-    assert!(rt; names.is_empty() && disk.odd().iter().all(|name| name.as_str() == "odd"));
+    let mut asked = Asked {
+        account: &account,
+        listing: &listing,
+        flags: &[false, true, true],
+    };
+    let names = disk.names_among(asked)?;
+    assert!(rt; names.is_empty() && disk.odd().iter().all(|name| name.as_str() == odd.as_str()));
     assert_eq!(rt; disk.odd().len(), 2);
-    let file = one(alloc, "file")?;
-    let names = disk.names_among(&file)?;
+    asked.flags = &[true, false, true];
+    let names = disk.names_among(asked)?;
     assert_eq!(rt; (names.len(), disk.odd().len()), (1, 1));
     Ok(())
 }

@@ -1,7 +1,8 @@
 //! What a loss of power leaves of folders in memory, and of what the devices over them did.
 
+use crate::support::{listing_of, stem_of};
 use folder_store::{Appending, FileFolder, FolderMaildir, HostFile, MailFolders};
-use mail_store::{FlatFile, Folder, MaildirDisk, StoreFault};
+use mail_store::{Asked, FlatFile, Folder, MaildirDisk, StoreFault, account_id};
 use std::alloc::Global;
 use std::test::Fail;
 use test_devices::{Left, MailLeft, MemoryFolder, MemoryFolders, ReaderStep};
@@ -29,13 +30,19 @@ fn told_of_one(alloc: Global, number: usize, step: ReaderStep) -> Result<(usize,
         steps.push(ReaderStep::Rest)?;
     }
     steps.push(step)?;
+    let account = account_id("server", 110, "user");
+    let listing = listing_of(alloc, &[("one", 1)])?;
     let mut folders = MemoryFolders::new(alloc, steps);
     let file = folders.make("one")?;
-    folders.put(file, "one")?;
+    folders.put(file, stem_of(alloc, &account, "one")?.as_str())?;
     folders.rests(Folder::New, 0)?;
     folders.rests(Folder::New, 0)?;
     let mut disk = FolderMaildir::over(alloc, folders);
-    let names = disk.names_among(&[String::from_str(alloc, "one")?])?;
+    let names = disk.names_among(Asked {
+        account: &account,
+        listing: &listing,
+        flags: &[true],
+    })?;
     let mut folders = disk.into_folders();
     folders.lose_power(&[MailLeft::Gone])?;
     Ok((names.len(), folders.content_at(0).is_some()))

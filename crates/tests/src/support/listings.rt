@@ -1,5 +1,6 @@
 //! Listings.
 
+use mail_store::{AccountId, file_stem};
 use mail_terms::{Listing, ListingFault, MESSAGE_LIMIT, ScanRow, UidRows, is_legal_id};
 use std::alloc::Global;
 
@@ -20,4 +21,12 @@ pub fn listing_of(alloc: Global, items: &[(&str, u64)]) -> Result<Listing, Listi
         })?;
     }
     uids.join(alloc, number, &sizes)
+}
+
+/// The stem of the files that hold an id.
+pub fn stem_of(alloc: Global, account: &AccountId, uid: &str) -> Result<String, ListingFault> {
+    if !is_legal_id(uid.as_bytes()) {
+        return Err(ListingFault::Disagree);
+    }
+    Ok(file_stem(alloc, account, uid.as_bytes())?)
 }

@@ -45,6 +45,6 @@ returns-clause-tells g c = λ s.
     let t1 = c.in_ok-in_new.ensures.lists t2.0 in
     let l = by_cur g (goal.at.returns-clause-tells g c).In_ok-flush_names-2 t4.0 in (
       l.0,
-      told_files c.args.stems _ _ _ _ _ c.in_ok-in_new.in_new c.in_ok-in_new.in_cur c.in_ok-flush_names.field-0
+      told_files c.args.asked _ _ _ _ _ c.in_ok-in_new.in_new c.in_ok-in_new.in_cur c.in_ok-flush_names.field-0
           c.in_ok-flush_names-2.field-0 t1.1.1 t2.1 t3.1 l.1 c.files_among.result c.files_among.ensures.fault t4.1,
     )

@@ -1,5 +1,6 @@
 use Rattle.std.proofs.Common.{option_map, sym}
 use Rattle.mail_terms.proofs.ErrLemmas.{is_err}
+use Rattle.mail_store.specs.Held.{asks}
 use Rattle.folder_store.{specs.MailFolders.draft_begun, proofs.MailCalls.{none_told, told_names}}
 use Rattle.folder_store.proofs.maildir.FolderMaildirMaildirDisk.names_among.Goals as goal
 
@@ -10,7 +11,7 @@ returns-in_err-found-clause-lists g c =
     let is = sym c.in_err-found.ensures.same in
     let t = c.told_names.ensures.tells s.0 in (
       (t.0, s.1, c.in_ok-admit.ensures.admitted),
-      none_told c.args.stems.now _ _ begun _ c.tally.new.failures c.in_err-found.field-0.0 t.1.0 (rw is at t.1.2)
+      none_told (asks c.args.asked) _ _ begun _ c.tally.new.failures c.in_err-found.field-0.0 t.1.0 (rw is at t.1.2)
           (rw is at c.told_names.ensures.fault) (rw is at c.in_err-found.ensures.counted),
     ))
 
@@ -20,6 +21,6 @@ returns-clause-lists g c = λ s.
     let is = sym c.in_ok-found.ensures.same in
     let t = c.told_names.ensures.tells s.0 in (
       (t.0, s.1, c.in_ok-admit.ensures.admitted),
-      told_names c.args.stems.now _ _ begun _ _ c.tally.new.failures c.in_ok-found.found (rw is at t.1)
+      told_names (asks c.args.asked) _ _ begun _ _ c.tally.new.failures c.in_ok-found.found (rw is at t.1)
           (rw is at c.in_ok-found.ensures.counted),
     )

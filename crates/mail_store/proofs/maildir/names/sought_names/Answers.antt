@@ -1,5 +1,5 @@
 use Rattle.std.proofs.{Common.{[], ◌∷◌, Global, map, string_bytes, sym, take}, lemmas.List.{map_more, Elements.filter-append}}
-use Rattle.mail_store.specs.Held.{is_sought}
+use Rattle.mail_store.specs.Held.{asks, is_sought}
 use Rattle.mail_store.proofs.maildir.names.sought_names.Goals as goal
 
 pub loop-name-preserved : goal.loop-name-preserved
@@ -8,5 +8,5 @@ loop-name-preserved c = rw (
   c.loop-name.invariant,
   map_more (string_bytes {Z = Global}) c.args.names.now c.loop-name.name-index c.name-item.result c.loop-name-test.true,
   ← c.name-item.is,
-) (sym (filter-append (is_sought c.args.stems.now) (map string_bytes (take c.loop-name.name-index c.args.names.now))
+) (sym (filter-append (is_sought (asks c.args.asked)) (map string_bytes (take c.loop-name.name-index c.args.names.now))
     (string_bytes c.name-item.result ∷ [])))

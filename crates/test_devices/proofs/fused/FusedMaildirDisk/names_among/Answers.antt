@@ -1,6 +1,6 @@
 use Rattle.std.proofs.Common.{ap, rules}
 use Rattle.test_devices.{specs.declared.fused.Fused.Fused, proofs.PartLemmas.fused_lists_among}
-use Rattle.mail_store.proofs.MaildirLemmas.{none_taken}
+use Rattle.mail_store.{specs.Held.asks, proofs.MaildirLemmas.none_taken}
 use Rattle.test_devices.proofs.fused.FusedMaildirDisk.names_among.Goals as goal
 
 pub returns-in_err-pass-clause-lists : goal.returns-in_err-pass-clause-lists
@@ -14,5 +14,5 @@ returns-clause-lists g c = λ s.
     let count = rw (ap (λ (f : Fused g.row.D.Denot). f.failures) passed.2) at c.tally.ensures.count in (
       (inner.0, passed.0),
       rw (c.tally.ensures.answer, device)
-          (fused_lists_among _ _ passed.0 _ _ c.args.stems.now c.names_among-answer.result count inner.1),
+          (fused_lists_among _ _ passed.0 _ _ (asks c.args.asked) c.names_among-answer.result count inner.1),
     )

@@ -2,15 +2,15 @@ use Rattle.std.{
   proofs.{Common.{[], ◌∙◌, ap, sym, rules, refl}, lemmas.List.{map-append, Sorted.IsPermutation-refl}},
   specs.List.filter,
 }
-use Rattle.mail_store.specs.{Held.is_sought, Maildir.name_in}
+use Rattle.mail_store.specs.{Held.{asks, is_sought}, Maildir.name_in}
 use Rattle.mail_store.proofs.MaildirLemmas.{all_shown, none_taken, told_sought}
 use Rattle.mail_store.proofs.maildir.memory.MemoryMaildirMaildirDisk.names_among.Goals as goal
 
 pub returns-in-Ok-clause-lists : goal.returns-in-Ok-clause-lists
 returns-in-Ok-clause-lists c = λ k.
     let sought = rw (c.deref.ensures.value, c.deref-2.ensures.value) at c.in-Ok.ensures in
-    let told = told_sought c.args.stems.now _ c.in-Ok.names.items
-    (sought ∙ ap (filter (is_sought c.args.stems.now)) (sym (map-append name_in _ _))) in (
+    let told = told_sought (asks c.args.asked) _ c.in-Ok.names.items
+    (sought ∙ ap (filter (is_sought (asks c.args.asked))) (sym (map-append name_in _ _))) in (
       k,
       (
         c.args.self.now.maildir,
