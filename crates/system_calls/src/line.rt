@@ -1,5 +1,5 @@
 //! The lines of a trace.
-ghost use Rattle.std.specs.Prelude.{◌≡◌, ◌++◌, ◌↔◌, IfOk, OnOk, IsTrue};
+ghost use Rattle.std.specs.Prelude.{◌≡◌, [], ◌++◌, ◌↔◌, IfOk, OnOk, IsTrue, codes};
 ghost use Rattle.system_calls.specs.Line.{IsTraceLine, IsShowable, HasTraceLine, shown_octet};
 
 use std::alloc::{AllocError, Global};
@@ -48,8 +48,10 @@ pub fn line_text(alloc: Global, mark: &str, octets: &[u8]) -> Result<Vec<u8>, Al
     Ok(line)
 }
 
-/// What a line shows of octets.
-pub fn shown(alloc: Global, octets: &[u8]) -> Result<Vec<u8>, AllocError> {
+/// What a line shows of octets: all of a line without a mark, but its LF.
+pub fn shown(alloc: Global, octets: &[u8]) -> Result<Vec<u8>, AllocError>
+    ensures { IfOk result (λ text. IsTraceLine [] octets.now (text.items ++ codes "\n")) }
+{
     let mut line = line_text(alloc, "", octets)?;
     line.pop();
     Ok(line)
