@@ -1,13 +1,17 @@
 -- What a trace shows of a conversation.
 use Rattle.std.specs.{
-  Prelude.{◌≡◌, ◌==◌, ◌+◌, ◌-◌, ◌^◌, ◌++◌, ℕ, true, false, List, Option, None, Some, IsSome, MatchOption, codes, min},
-  Prelude.{count_by, option_map, take},
+  Prelude.{◌≡◌, ◌==◌, ◌+◌, ◌-◌, ◌^◌, ◌++◌, ℕ, Bool, true, false, List, Option, None, Some, IsSome, MatchOption, codes},
+  Prelude.{count_by, min, option_map, take},
   Fmt.decimal,
 }
-use Rattle.pop3_wire.specs.declared.note.Note.{Note, TheVariants.{Command, Reply, Refused, Count, Body}}
+use Rattle.pop3_wire.specs.declared.note.{
+  Asked.{Asked, TheVariants.{Uidl, List as ListAsked}},
+  Note.{Note, TheVariants.{Command, Reply, Refused, Count, Body}},
+}
 use Rattle.trace.specs.{
   Command.{most_shown, shown_command},
   Shown.{ComesAfter, IsShown},
+  declared.{masking.Shown.Shown, talk.Spoken.{Spoken, TheVariants.{Command as SpokenCommand, Answer, Row, End}}},
   declared.wire.{Trace.Trace, TracedWire.TracedWire},
 }
 use Rattle.system_calls.specs.Line.{HasTraceLine}
@@ -26,32 +30,58 @@ hidden_in trace = option_map (λ password. password.items) trace.mask.password
 abbrev pub Hides : {W E : Type 0} → TracedWire W E → List ℕ → Type 0
 Hides link password = MatchOption link.trace (Unit {0}) (λ trace. hidden_in trace ≡ Some password)
 
--- more of a body came: its lines and its octets are counted
+-- more of a body came: its lines and its octets are counted, if there is a writer
 abbrev pub Counts : {E : Type 0} → Trace E → List ℕ → ℕ → Trace E → Type 0
 Counts old text octets new = (new.lines ≡ min (old.lines + count_by (λ octet. octet == 10) text) (2 ^ 64 - 1))
     × (new.octets ≡ min (old.octets + octets) (2 ^ 64 - 1))
 
--- the first line of an answer was shown, in which the password is hidden; nothing of a body came yet
-abbrev pub ShowsAnswer : {E : Type 0} → (E → Option (List ℕ)) → Trace E → List ℕ → Trace E → Type 0
-ShowsAnswer contents old answer new =
-    (shown : List ℕ) × IsShown (hidden_in old) old.mask.moment answer shown
-    × AddsTraceLine contents old.err new.err (codes "S: ") (take most_shown shown)
-    × (new.lines ≡ 0) × (new.octets ≡ 0)
+abbrev pub HasCounted : {E : Type 0} → Trace E → List ℕ → ℕ → Trace E → Type 0
+HasCounted old text octets new =
+    (new ≡ record old { lines = new.lines; octets = new.octets }) × (IsSome old.err → Counts old text octets new)
 
 -- what is shown of a body
 abbrev pub count_text : ℕ → ℕ → List ℕ
 count_text lines octets = codes "(" ++ (decimal lines ++ (codes " lines, " ++ (decimal octets ++ codes " octets)")))
 
--- a part of a conversation was shown: of a body, how many lines and octets came, at its end
+-- the rows of a listing are kept, if there is a place for them
+abbrev pub keeps_rows : {T : Type 0} → Option T → Option Asked → Bool
+keeps_rows (Some talk) (Some Uidl) = true
+keeps_rows (Some talk) (Some ListAsked) = true
+keeps_rows talk asked = false
+
+-- the password is hidden in an answer
+abbrev pub IsHidden : {E : Type 0} → Trace E → List ℕ → Shown → Type 0
+IsHidden trace answer shown = IsShown (hidden_in trace) trace.mask.moment answer shown.octets.items
+
+-- this is kept of a part of a body
+abbrev pub IsRowOf : {E : Type 0} → Trace E → List ℕ → Option Spoken → Type 0
+IsRowOf trace text (Some (Row row)) = (keeps_rows trace.talk trace.asked ≡ true) × IsHidden trace text row
+IsRowOf trace text None = keeps_rows trace.talk trace.asked ≡ false
+IsRowOf trace text heard = ⊥
+
+-- a part of a conversation was heard, of which this is shown or kept: of a command what hides secrets, of an answer its
+-- first line with the password hidden, of a body its rows or its end; its lines and octets are counted
+abbrev pub Hears : {E : Type 0} → Trace E → Note → Trace E → Option Spoken → Type 0
+Hears old (Command asked command) new (Some (SpokenCommand shown)) =
+    (new ≡ record old { asked = asked; mask = new.mask }) × ComesAfter old.mask.moment command.now new.mask.moment
+    × (shown.now ≡ take most_shown (shown_command command.now))
+Hears old (Reply answer) new (Some (Answer shown)) =
+    (new ≡ record old { lines = 0; octets = 0 }) × IsHidden old answer.now shown
+Hears old Refused new None = new ≡ record old { talk = None }
+Hears old (Count count) new None = new ≡ old
+Hears old (Body text octets true) new (Some End) = HasCounted old text.now octets new
+Hears old (Body text octets false) new row = HasCounted old text.now octets new × IsRowOf old text.now row
+Hears old part new heard = ⊥
+
+-- what was heard was shown, but no row
+abbrev pub Shows : {E : Type 0} → (E → Option (List ℕ)) → Trace E → Spoken → Option E → Type 0
+Shows contents old (SpokenCommand command) new = AddsTraceLine contents old.err new (codes "C: ") command.now
+Shows contents old (Answer answer) new =
+    AddsTraceLine contents old.err new (codes "S: ") (take most_shown answer.octets.items)
+Shows contents old (Row row) new = new ≡ old.err
+Shows contents old End new = AddsTraceLine contents old.err new (codes "S: ") (count_text old.lines (old.octets - 3))
+
+-- a part of a conversation was shown, if anything is shown of it
 abbrev pub ShowsPart : {E : Type 0} → (E → Option (List ℕ)) → Trace E → Note → Trace E → Type 0
-ShowsPart contents old (Command asked command) new =
-    ComesAfter old.mask.moment command.now new.mask.moment
-    × AddsTraceLine contents old.err new.err (codes "C: ") (take most_shown (shown_command command.now))
-ShowsPart contents old (Reply answer) new = ShowsAnswer contents old answer.now new
-ShowsPart contents old Refused new = new ≡ record old { talk = new.talk }
-ShowsPart contents old (Count count) new = new ≡ old
-ShowsPart contents old (Body text octets false) new = (new.err ≡ old.err)
-    × (IsSome old.err → Counts old text.now octets new)
-ShowsPart contents old (Body text octets true) new = AddsTraceLine contents old.err new.err (codes "S: ")
-    (count_text new.lines (new.octets - 3))
-    × (IsSome old.err → Counts old text.now octets new)
+ShowsPart contents old part new = (heard : Option Spoken) × (then : Trace _) × Hears old part then heard
+    × MatchOption heard (new ≡ then) (λ spoken. (new ≡ record then { err = new.err }) × Shows contents then spoken new.err)

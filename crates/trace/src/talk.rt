@@ -1,12 +1,26 @@
 //! What was said in a conversation, to tell where it went wrong.
+ghost use Rattle.std.specs.Prelude.{OnOk};
+ghost use Rattle.trace.specs.Talk.{IsSilent, Keeps};
+
 use crate::masking::Shown;
 use pop3_wire::Asked;
-use std::alloc::Global;
+use std::alloc::{AllocError, Global};
 use std::cell::Cell;
 use system_calls::shown;
 
-/// What was said until a command was refused, as a trace shows it; what wasn't said is empty. Without memory
-/// less is kept.
+/// A part of what is said, as it is shown.
+#[derive(Drop)]
+pub(crate) enum Spoken<'a> {
+    Command(&'a [u8]),
+    /// The first line of an answer.
+    Answer(Shown),
+    /// A row of a listing.
+    Row(Shown),
+    /// The end of a body.
+    End,
+}
+
+/// What was said until a command was refused, as a trace shows it; what wasn't said is empty.
 #[derive(Drop)]
 pub struct Said {
     /// The last command.
@@ -25,7 +39,9 @@ pub struct Said {
 
 impl Said {
     /// Nothing was said.
-    pub fn new(alloc: Global) -> Said {
+    pub fn new(alloc: Global) -> Said
+        ensures { IsSilent result }
+    {
         Said {
             command: Vec::new(alloc),
             answer: Vec::new(alloc),
@@ -35,13 +51,39 @@ impl Said {
             sizes: 0,
         }
     }
-}
 
-/// What is shown of octets; nothing if there is no memory for it.
-fn text_of(alloc: Global, octets: &[u8]) -> Vec<u8> {
-    match shown(alloc, octets) {
-        Ok(text) => text,
-        Err(_) => Vec::new(alloc),
+    /// A part was said after a command that asked for this. If there is no memory for it, nothing of all that was said
+    /// is to be used any more: a part that is older would be told as the last one.
+    fn add(
+        &mut self,
+        alloc: Global,
+        asked: Option<Asked>,
+        spoken: &Spoken<'_>,
+    ) -> Result<(), AllocError>
+        ensures { OnOk result (Keeps self.old asked spoken.now self.new) }
+    {
+        match spoken {
+            Spoken::Command(command) => {
+                self.command = shown(alloc, command)?;
+                self.answer = Vec::new(alloc);
+                self.row = Vec::new(alloc);
+            }
+            Spoken::Answer(answer) => {
+                self.answer = shown(alloc, answer.front())?;
+                if let Some(Asked::Stat) = asked {
+                    self.count = Vec::from_slice(alloc, &self.answer)?;
+                }
+            }
+            Spoken::Row(row) => {
+                self.row = shown(alloc, row.front().trim_ascii_end())?;
+                match asked {
+                    Some(Asked::Uidl) => self.uids = self.uids.saturating_add(1),
+                    _ => self.sizes = self.sizes.saturating_add(1),
+                }
+            }
+            Spoken::End => {}
+        }
+        Ok(())
     }
 }
 
@@ -61,34 +103,12 @@ impl Talk {
         }
     }
 
-    /// A command was sent, which is shown in this way.
-    pub(crate) fn ask(&self, command: &[u8]) {
+    /// A part was said after a command that asked for this. Without memory all is forgotten.
+    pub(crate) fn note(&self, asked: Option<Asked>, spoken: &Spoken<'_>) {
         let mut said = self.take();
-        said.command = text_of(self.alloc, command);
-        said.answer = Vec::new(self.alloc);
-        said.row = Vec::new(self.alloc);
-        self.said.set(said);
-    }
-
-    /// An answer came.
-    pub(crate) fn hear(&self, asked: Option<Asked>, answer: &Shown) {
-        let mut said = self.take();
-        said.answer = text_of(self.alloc, answer.front());
-        if let Some(Asked::Stat) = asked {
-            said.count = text_of(self.alloc, answer.front());
+        if said.add(self.alloc, asked, spoken).is_ok() {
+            self.said.set(said);
         }
-        self.said.set(said);
-    }
-
-    /// A row of a listing came.
-    pub(crate) fn list(&self, asked: Option<Asked>, row: &Shown) {
-        let mut said = self.take();
-        match asked {
-            Some(Asked::Uidl) => said.uids = said.uids.saturating_add(1),
-            _ => said.sizes = said.sizes.saturating_add(1),
-        }
-        said.row = text_of(self.alloc, row.front().trim_ascii_end());
-        self.said.set(said);
     }
 
     /// What was said. It is taken out.

@@ -1,16 +1,12 @@
 //! A link that is traced.
-ghost use Rattle.std.specs.Prelude.{◌≡◌, ◌-◌, ℕ, List, Some, IsSome, OnOk, codes, option_map, take};
-ghost use Rattle.trace.specs.{
-  Command.{most_shown, shown_command},
-  Shown.ComesAfter,
-  Wire.{AddsTraceLine, Counts, Hides, ShowsAnswer, ShowsPart, count_text},
-};
+ghost use Rattle.std.specs.Prelude.{◌≡◌, ◌-◌, ℕ, List, Some, IfOk, IsSome, OnOk, codes, option_map};
+ghost use Rattle.trace.specs.Wire.{AddsTraceLine, Counts, Hears, Hides, IsRowOf, Shows, ShowsPart, count_text};
 
 use crate::command::{cut, shown_command};
 use crate::masking::Mask;
-use crate::talk::Talk;
+use crate::talk::{Spoken, Talk};
 use pop3_wire::{Asked, Note, Wire, WireDown};
-use std::alloc::Global;
+use std::alloc::{AllocError, Global};
 use std::io::{self, Write};
 use system_calls::write_line;
 
@@ -34,40 +30,6 @@ struct Trace<'a, E> {
 }
 
 impl<'a, E: Write> Trace<'a, E> {
-    fn show(&mut self, mark: &str, octets: &[u8]) -> io::Result<()>
-        ensures shown { OnOk result (AddsTraceLine E.contents self.old.err self.new.err mark.now octets.now) }
-        ensures same { self.new ≡ record self.old { err = self.new.err } }
-    {
-        match &mut self.err {
-            Some(err) => write_line(self.alloc, err, mark, octets),
-            None => Ok(()),
-        }
-    }
-
-    fn show_answer(&mut self, answer: &[u8]) -> io::Result<()>
-        ensures shown { OnOk result (ShowsAnswer E.contents self.old answer.now self.new) }
-        ensures same { self.new.mask.password ≡ self.old.mask.password }
-    {
-        self.lines = 0;
-        self.octets = 0;
-        let answer = self.mask.shown(self.alloc, answer)?;
-        if let Some(talk) = self.talk {
-            talk.hear(self.asked, &answer);
-        }
-        self.show("S: ", answer.front())
-    }
-
-    fn show_count(&mut self) -> io::Result<()>
-        ensures shown { OnOk result
-            (AddsTraceLine E.contents self.old.err self.new.err (codes "S: ")
-            (count_text self.old.lines (self.old.octets - 3))) }
-        ensures same { self.new ≡ record self.old { err = self.new.err } }
-    {
-        let octets = self.octets.saturating_sub(END_MARK);
-        let text = format!(in self.alloc; "({} lines, {octets} octets)", self.lines)?;
-        self.show("S: ", text.as_bytes())
-    }
-
     /// More of a body came, whose lines and octets are told at its end, if there is a writer.
     fn count(&mut self, text: &[u8], octets: usize)
         ensures same { self.new ≡ record self.old { lines = self.new.lines; octets = self.new.octets } }
@@ -81,48 +43,41 @@ impl<'a, E: Write> Trace<'a, E> {
         self.octets = self.octets.saturating_add(octets as u64);
     }
 
-    /// Keeps a part of a body, if it is a row of a listing and there is a place for it. The password is searched in
-    /// all of a row, and in no part of a message.
-    fn keep_row(&self, text: &[u8]) -> io::Result<()> {
-        if let Some(talk) = self.talk {
-            if let Some(Asked::Uidl | Asked::List) = self.asked {
-                let row = self.mask.shown(self.alloc, text)?;
-                talk.list(self.asked, &row);
-            }
-        }
-        Ok(())
-    }
-
-    /// Shows a command.
-    fn show_command(&mut self, asked: Option<Asked>, command: &[u8]) -> io::Result<()>
-        ensures shown { OnOk result (ComesAfter self.old.mask.moment command.now self.new.mask.moment
-            × AddsTraceLine E.contents self.old.err self.new.err (codes "C: ")
-            (take most_shown (shown_command command.now))) }
-        ensures same { self.new.mask.password ≡ self.old.mask.password }
+    /// A part of a body, if it is a row of a listing and there is a place for it. The password is searched in all of a
+    /// row, and in no part of a message.
+    fn row_in<'b>(&self, text: &[u8]) -> Result<Option<Spoken<'b>>, AllocError>
+        ensures { IfOk result (IsRowOf self.now text.now) }
     {
-        self.asked = asked;
-        self.mask.pass(command);
-        let command = cut(shown_command(command));
-        if let Some(talk) = self.talk {
-            talk.ask(command);
+        match (self.talk, self.asked) {
+            (Some(_), Some(Asked::Uidl | Asked::List)) => {
+                Ok(Some(Spoken::Row(self.mask.shown(self.alloc, text)?)))
+            }
+            _ => Ok(None),
         }
-        self.show("C: ", command)
     }
 
-    /// Shows a part of the conversation, unless it is within a body.
-    fn note(&mut self, part: Note<'_>) -> io::Result<()>
-        ensures shown { OnOk result (ShowsPart E.contents self.old part.entry self.new) }
-        ensures same { self.new.mask.password ≡ self.old.mask.password }
+    /// Takes a part of the conversation. What is shown or kept of it is returned.
+    fn hear<'b>(&mut self, part: Note<'b>) -> Result<Option<Spoken<'b>>, AllocError>
+        ensures heard { IfOk result (Hears self.old part.entry self.new) }
+        ensures same { (self.new.mask.password ≡ self.old.mask.password) × (self.new.err ≡ self.old.err) }
     {
         match part {
-            Note::Command(asked, command) => self.show_command(asked, command),
-            Note::Reply(answer) => self.show_answer(answer),
+            Note::Command(asked, command) => {
+                self.asked = asked;
+                self.mask.pass(command);
+                Ok(Some(Spoken::Command(cut(shown_command(command)))))
+            }
+            Note::Reply(answer) => {
+                self.lines = 0;
+                self.octets = 0;
+                Ok(Some(Spoken::Answer(self.mask.shown(self.alloc, answer)?)))
+            }
             // What the peer says later isn't the reason of a fault.
             Note::Refused => {
                 self.talk = None;
-                Ok(())
+                Ok(None)
             }
-            Note::Count(_) => Ok(()),
+            Note::Count(_) => Ok(None),
             Note::Body {
                 text,
                 octets,
@@ -130,12 +85,62 @@ impl<'a, E: Write> Trace<'a, E> {
             } => {
                 self.count(text, octets);
                 if ended {
-                    self.show_count()
+                    Ok(Some(Spoken::End))
                 } else {
-                    self.keep_row(text)
+                    self.row_in(text)
                 }
             }
         }
+    }
+
+    /// Writes a line, if there is a writer.
+    fn write(&mut self, mark: &str, octets: &[u8]) -> io::Result<()>
+        ensures shown { OnOk result (AddsTraceLine E.contents self.old.err self.new.err mark.now octets.now) }
+        ensures same { self.new ≡ record self.old { err = self.new.err } }
+    {
+        match &mut self.err {
+            Some(err) => write_line(self.alloc, err, mark, octets),
+            None => Ok(()),
+        }
+    }
+
+    /// Writes how much of a body came.
+    fn show_count(&mut self) -> io::Result<()>
+        ensures shown { OnOk result
+            (AddsTraceLine E.contents self.old.err self.new.err (codes "S: ")
+            (count_text self.old.lines (self.old.octets - 3))) }
+        ensures same { self.new ≡ record self.old { err = self.new.err } }
+    {
+        let octets = self.octets.saturating_sub(END_MARK);
+        let text = format!(in self.alloc; "({} lines, {octets} octets)", self.lines)?;
+        self.write("S: ", text.as_bytes())
+    }
+
+    /// Shows what was heard.
+    fn show(&mut self, heard: &Spoken<'_>) -> io::Result<()>
+        ensures shown { OnOk result (Shows E.contents self.old heard.now self.new.err) }
+        ensures same { self.new ≡ record self.old { err = self.new.err } }
+    {
+        match heard {
+            Spoken::Command(command) => self.write("C: ", command),
+            Spoken::Answer(answer) => self.write("S: ", answer.front()),
+            Spoken::Row(_) => Ok(()),
+            Spoken::End => self.show_count(),
+        }
+    }
+
+    /// Shows a part of the conversation, unless it is within a body, and keeps what tells where it went wrong.
+    fn note(&mut self, part: Note<'_>) -> io::Result<()>
+        ensures shown { OnOk result (ShowsPart E.contents self.old part.entry self.new) }
+        ensures same { self.new.mask.password ≡ self.old.mask.password }
+    {
+        let Some(heard) = self.hear(part)? else {
+            return Ok(());
+        };
+        if let Some(talk) = self.talk {
+            talk.note(self.asked, &heard);
+        }
+        self.show(&heard)
     }
 }
 
