@@ -222,10 +222,15 @@ class Unattended(unittest.TestCase):
         self.assertEqual(self.session(), (0, []))
 
     def test_an_rc_file_that_is_wrong(self):
+        """No account is known then, so the line that says since when names the file; that it is over names the account."""
         good = self.account.rcfile.read_bytes()
         self.account.rcfile.write_bytes(good.replace(b"port = ", b"port = x"))
-        self.assertEqual(self.run_getmail().status, 2)
+        fault = self.run_getmail()
+        self.assertEqual((fault.status, fault.err.count(b"\n")), (2, 2), fault)
         self.assertEqual(self.run_getmail(), programs.Run(2, b"", b""))
+        self.now += DAY
+        again = f"getmail: {self.account.rcfile}: seen since {DATE}, in 3 runs\n"
+        self.assertEqual(self.run_getmail(), programs.Run(2, b"", fault.err + again.encode()))
         self.account.rcfile.write_bytes(good)
         self.assertEqual(self.session(), (0, [self.line(f"works again: runs had failed since {DATE}")]))
 
