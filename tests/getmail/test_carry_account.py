@@ -10,6 +10,7 @@ import subprocess
 import sys
 import tempfile
 import threading
+import time
 import unittest
 from pathlib import Path
 from unittest import mock
@@ -487,10 +488,12 @@ class Reading(InHome):
         self.play(self.read_new_ones, NONE)
 
     def test_two_changes_at_one_tick_of_the_clock(self):
-        """A folder has one time after both, where times are kept in whole seconds."""
+        """A folder has one time after both, where times are kept in whole seconds, each a tenth of one here."""
         path, times = self.path("new", self.home.old, b"d"), self.script.Maildir.times
         self.enterContext(mock.patch.object(self.script.Maildir, "times", lambda maildir: [
-            time // 1_000_000_000 * 1_000_000_000 for time in times(maildir)]))
+            changed // 100_000_000 * 1_000_000_000 for changed in times(maildir)]))
+        self.enterContext(mock.patch.object(self.script, "time", mock.Mock(
+            time=time.time, time_ns=lambda: 10 * time.time_ns(), sleep=lambda seconds: time.sleep(seconds / 10))))
         for number in (4, 4):
             self.home.restore()
             self.moved = set()

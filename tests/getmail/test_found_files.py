@@ -7,7 +7,7 @@ import unittest
 from getmail.account import Account
 from getmail.shared_server import SharedServer
 from harness import preload
-from harness.power import rows_of
+from harness.noted import noted
 
 LETTERS = [(b"uid-%d" % number, b"Subject: %d\n\ntext\n" % number) for number in range(3)]
 
@@ -17,7 +17,7 @@ BOTH = (("new", ""), ("cur", ":2,F"))
 
 class FoundFiles(unittest.TestCase):
     def setUp(self):
-        self.noting = self.enterContext(preload.library("note_changes"))
+        self.noted = self.enterContext(noted())
         self.server = self.enterContext(SharedServer(LETTERS))
         self.account = self.enterContext(Account(self.server.port))
 
@@ -38,14 +38,11 @@ class FoundFiles(unittest.TestCase):
 
     def changes_of_run(self, *libraries, copies=1, **changes):
         """The rows of a run that ends well, after which there are so many copies of each message."""
-        note = self.account.home / "changes"
-        note.unlink(missing_ok=True)
-        run = self.account.run("-q", LD_PRELOAD=":".join(map(str, (*libraries, self.noting))), CHANGES_NOTE=str(note),
-                               **changes)
+        run = self.account.run("-q", **self.noted.environment(*libraries, **changes))
         self.server.wait_for_end()
         self.assertEqual((run.status, run.out, run.err), (0, b"", b""))
         self.assertEqual(self.account.held(), sorted(LETTERS * copies))
-        return [words for words, _ in rows_of(note.read_bytes())]
+        return [words for words, _ in self.noted.rows()]
 
     def flushed_first(self, rows):
         """The files that are flushed before the record's file is made."""
@@ -69,10 +66,8 @@ class FoundFiles(unittest.TestCase):
         self.changes_of_run()
         self.server.messages.append((b"uid-3", b"one more\n"))
         self.addCleanup(self.server.messages.pop)
-        run = self.account.run("-q", LD_PRELOAD=str(self.noting), CHANGES_NOTE=str(self.account.home / "more"))
-        self.assertEqual(run.status, 0)
-        rows = [words for words, _ in rows_of((self.account.home / "more").read_bytes())]
-        self.assertFalse(inodes & {int(words[1]) for words in rows if words[0] == "flush"})
+        self.assertEqual(self.account.run("-q", **self.noted.environment()).status, 0)
+        self.assertFalse(inodes & {int(words[1]) for words, _ in self.noted.rows() if words[0] == "flush"})
 
     def test_both_files_of_a_message(self):
         inodes = self.put(*BOTH)

@@ -6,9 +6,8 @@ import unittest
 from getmail.account import Account
 from getmail.mbox_account import MboxAccount
 from getmail.shared_server import SharedServer
-from harness import preload
 from harness.mboxrd import entries
-from harness.power import rows_of
+from harness.noted import noted
 from probe import grammar, record_files
 
 LETTERS = [(b"uid-%d" % number, b"Subject: %d\n\ntext\n" % number) for number in range(3)]
@@ -20,7 +19,7 @@ class IdlePolls:
     """For an account of either kind."""
 
     def setUp(self):
-        self.library = self.enterContext(preload.library("note_changes"))
+        self.noted = self.enterContext(noted())
         self.server = self.enterContext(SharedServer(LETTERS))
         self.account = self.enterContext(self.KIND(self.server.port))
         self.check_run()
@@ -43,21 +42,19 @@ class IdlePolls:
 
     def test_only_commands_are_written(self):
         """Nothing else is written, nothing is flushed, renamed or removed, and no folder is listed."""
-        note = self.account.home / "note"
-        self.check_run(LD_PRELOAD=str(self.library), CHANGES_NOTE=str(note), CHANGES_LISTED="1")
-        self.assertEqual({words[0] for words, _ in rows_of(note.read_bytes())}, {"send"})
+        self.check_run(**self.noted.environment(CHANGES_LISTED="1"))
+        self.assertEqual({words[0] for words, _ in self.noted.rows()}, {"send"})
 
     def test_an_outgrown_record_is_no_reason_to_list(self):
         """It is written anew, and no folder is listed."""
-        note, given = self.account.home / "note", record_files.large_file(65_537, 32_762)
+        given = record_files.large_file(65_537, 32_762)
         rows = grammar.record_of(self.account.record.read_bytes()).rows
         self.account.record.write_bytes(given + b"+ 3\n" + b"".join(b"%s 5 1\n" % uid for uid, _ in LETTERS))
-        self.check_run(LD_PRELOAD=str(self.library), CHANGES_NOTE=str(note), CHANGES_LISTED="1")
+        self.check_run(**self.noted.environment(CHANGES_LISTED="1"))
         left = self.account.record.read_bytes()
         self.assertEqual(grammar.record_of(left).rows.keys(), grammar.record_of(given).rows.keys() | rows.keys())
         self.assertNotIn(b"+ ", left)
-        changes = rows_of(note.read_bytes())
-        self.assertNotIn("list", {words[0] for words, _ in changes})
+        self.assertNotIn("list", {words[0] for words, _ in self.noted.rows()})
         self.assertEqual(self.stored(), self.STORED)
 
     def test_files_of_killed_runs_wait_for_a_session_that_fetches(self):

@@ -51,6 +51,8 @@ class Reading(unittest.TestCase):
     @classmethod
     def setUpClass(cls):
         cls.messages = [(b"uid-%04d" % number, b"%d\n" % number) for number in range(COUNT)]
+        # What the runs find is listed and flushed: the listings are what this is about.
+        cls.skipping = str(cls.enterClassContext(preload.library("skip_flushes")))
 
     def setUp(self):
         self.server = SharedServer(self.messages)
@@ -62,6 +64,7 @@ class Reading(unittest.TestCase):
             (self.account.maildir / "cur" / f"{self.account.name(uid, text)}:2,").write_bytes(text)
 
     def run_once(self, **changes):
+        changes["LD_PRELOAD"] = " ".join(filter(None, (changes.get("LD_PRELOAD"), self.skipping)))
         run = self.account.run("-q", **changes)
         self.server.wait_for_end()
         return run
@@ -176,17 +179,18 @@ class WithReader(Reading):
         cls.library = library.__enter__()
         cls.addClassCleanup(library.__exit__, None, None, None)
 
-    def read_at(self, call, **changes):
+    def read_at(self, call, *libraries, **changes):
         """A run whose reader works before that call, and whether there was such a call."""
         note = self.account.home / "note"
         note.unlink(missing_ok=True)
-        run = self.run_once(LD_PRELOAD=str(self.library), READER_MAILDIR=str(self.account.maildir),
+        run = self.run_once(LD_PRELOAD=" ".join(map(str, (self.library, *libraries))), READER_MAILDIR=str(self.account.maildir),
                             READER_CALL=str(call), READER_NOTE=str(note), **changes)
         return run, note.exists()
 
     def check_restless(self):
-        """A run says that it was refused and stores nothing; the next one goes on once the reader rests."""
-        run, came = self.read_at(0)
+        """A run says that it was refused and stores nothing, after two seconds, a tenth of that here; the next one goes on once
+        the reader rests."""
+        run, came = self.read_at(0, self.enterContext(preload.library("hurry")), HURRY="10")
         self.assertTrue(came)
         self.assertEqual(run, programs.Run(1, b"", REFUSED))
         self.check_run(run)

@@ -5,9 +5,8 @@ import unittest
 
 from getmail.account import Account
 from getmail.shared_server import SharedServer
-from harness import preload
 from harness.maildir import make_maildir
-from harness.power import rows_of
+from harness.noted import noted
 
 LETTERS = [(b"uid-%d" % number, b"Subject: %d\n\ntext\n" % number) for number in range(4)]
 
@@ -30,7 +29,7 @@ def replace_the_maildir(maildir):
 
 class ReplacedFolder(unittest.TestCase):
     def check(self, replace, is_link=False):
-        with SharedServer(LETTERS) as server, Account(server.port) as account, preload.library("note_changes") as noting:
+        with SharedServer(LETTERS) as server, Account(server.port) as account, noted() as noting:
             if is_link:
                 (account.maildir / "new").rename(account.maildir / "first")
                 (account.maildir / "new").symlink_to("first")
@@ -44,17 +43,15 @@ class ReplacedFolder(unittest.TestCase):
                 say(octets)
 
             server.give = give
-            note = account.home / "changes"
-            run = account.run("-q", "-d", LD_PRELOAD=str(noting), CHANGES_NOTE=str(note))
+            run = account.run("-q", "-d", **noting.environment())
             server.wait_for_end()
             self.assertEqual((run.status, run.err, server.messages), (0, b"", []))
-            rows = rows_of(note.read_bytes())
             # As the system knows the folders, each by its path at the moment of the flush.
             here = str((account.maildir / "new").resolve())
             first = str(account.maildir / "first") if is_link else here
             flushed = None
             deleted = 0
-            for words, octets in rows:
+            for words, octets in noting.rows():
                 if words[0] == "link" and "/new/" in words[2]:
                     flushed = None
                 elif words[0] == "flush-folder":

@@ -3,6 +3,7 @@
 import os
 import socket
 import subprocess
+import termios
 import threading
 import time
 import unittest
@@ -10,7 +11,7 @@ from pathlib import Path
 
 from getmail.account import Account
 from getmail.server import Server
-from harness import preload, programs
+from harness import kernel, preload, programs
 from harness.kernel import LOOPBACK
 
 THREE = [(b"a", b"one\n"), (b"b", b"two\n" * 50), (b"c", b"three\n")]
@@ -189,7 +190,7 @@ class StandardError(Sessions):
 
 class RcFile(Sessions):
     def feed(self, pieces):
-        """A run whose rc file is a pipe, into which the pieces are written, one a moment after the other."""
+        """A run whose rc file is a pipe, into which the pieces are written, each once the one before was read."""
         pipe = self.account.home / "pipe"
         os.mkfifo(pipe)
 
@@ -197,7 +198,7 @@ class RcFile(Sessions):
             with open(pipe, "wb", buffering=0) as end:
                 for piece in pieces:
                     end.write(piece)
-                    time.sleep(0.1)
+                    kernel.wait_for(lambda: kernel.octets_of(end, termios.FIONREAD) == 0, "the pipe isn't read")
 
         writer = threading.Thread(target=write, daemon=True)
         writer.start()

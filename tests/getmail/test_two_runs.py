@@ -15,8 +15,8 @@ import unittest
 from getmail.account import Account
 from getmail.server import Cut
 from getmail.shared_server import SharedServer, in_pieces
-from harness import preload, programs
-from harness.power import rows_of
+from harness import programs
+from harness.noted import noted
 
 LONG = [(b"long", b"a line of the text\n" * 10_000)]
 SOME = [(b"%d" % number, b"line %d\n" % number * 40 ** (1 + number % 3)) for number in range(5)]
@@ -176,21 +176,13 @@ class Flushed(TwoRuns):
 
     @classmethod
     def setUpClass(cls):
-        library = preload.library("note_changes")
-        cls.library = library.__enter__()
-        cls.addClassCleanup(library.__exit__, None, None, None)
+        cls.noted = cls.enterClassContext(noted())
 
     def watch(self, account, *words, killed=None):
-        note = account.home / "note"
-        changes = {"LD_PRELOAD": str(self.library), "CHANGES_NOTE": str(note)}
-        if killed is not None:
-            changes["CHANGES_KILLED"] = str(killed)
-        run = account.run("-q", *words, **changes)
+        run = account.run("-q", *words, **self.noted.environment(killed=killed))
         self.server.wait_for_end()
-        rows = rows_of(note.read_bytes())
-        note.unlink()
         self.assertEqual(run.status, 0 if killed is None else -signal.SIGKILL, run.err)
-        return rows
+        return self.noted.rows()
 
     @staticmethod
     def place_of(rows, wanted):

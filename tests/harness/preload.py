@@ -1,5 +1,6 @@
 """A library that is preloaded into a program, built from C in a folder of its own."""
 
+import functools
 import subprocess
 import tempfile
 from contextlib import contextmanager
@@ -10,13 +11,22 @@ from harness import programs
 SECONDS_TO_SHOW_VERSION = 10
 
 
-@contextmanager
-def library(name):
-    """The library of the source `tests/NAME.c`."""
+@functools.cache
+def _compiled(name):
+    """The octets of the library, which is compiled once in a run of the tests."""
     with tempfile.TemporaryDirectory() as folder:
-        built = Path(folder) / f"{name}.so"
+        built = Path(folder) / "built"
         subprocess.run(["cc", "-O1", "-Wall", "-Werror", "-shared", "-fPIC", "-o", built,
                         programs.ROOT / "tests" / f"{name}.c", "-ldl"], check=True, timeout=programs.SECONDS)
+        return built.read_bytes()
+
+
+@contextmanager
+def library(name):
+    """The library of the source `tests/NAME.c`, in a folder of its own."""
+    with tempfile.TemporaryDirectory() as folder:
+        built = Path(folder) / f"{name}.so"
+        built.write_bytes(_compiled(name))
         yield built
 
 

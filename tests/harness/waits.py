@@ -69,6 +69,11 @@ class Time(Hurry):
         return given - left
 
 
+def no_pauses(test):
+    """The environment of a test's runs whose sleeps are over at once. The library opens no file in them."""
+    return {"LD_PRELOAD": str(test.enterContext(preload.library("hurry"))), "HURRY_TIME": ""}
+
+
 def _for(tests, make):
     """What is made of the library, which is there until the class of tests is over."""
     library = preload.library("hurry")

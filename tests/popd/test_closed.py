@@ -4,7 +4,7 @@ or `--trace` goes to a client."""
 import subprocess
 import unittest
 
-from harness import preload, programs
+from harness import programs, waits
 from popd.service import Maildir, Service
 
 FLAGS = (), ("--verbose",), ("--trace",), ("--verbose", "--trace")
@@ -12,8 +12,7 @@ FLAGS = (), ("--verbose",), ("--trace",), ("--verbose", "--trace")
 
 class Closed(unittest.TestCase):
     def setUp(self):
-        # No pause after a refused password; and no file of the library has the number of one that is closed.
-        self.changes = {"LD_PRELOAD": str(self.enterContext(preload.library("hurry"))), "HURRY_TIME": ""}
+        self.no_pauses = waits.no_pauses(self)
         self.maildir = Maildir()
         self.addCleanup(self.maildir.holder.cleanup)
 
@@ -30,7 +29,7 @@ class Closed(unittest.TestCase):
             for words in FLAGS:
                 with self.subTest(closed=closed, words=words):
                     self.maildir.add("new", "a", b"one\n")
-                    with Service(self.maildir, "--connections", "1", *words, closed=closed, **self.changes) as service:
+                    with Service(self.maildir, "--connections", "1", *words, closed=closed, **self.no_pauses) as service:
                         with service.client() as client:
                             self.check_session(client)
                         status, err = service.finish()

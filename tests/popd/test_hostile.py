@@ -11,7 +11,7 @@ import time
 import unittest
 from pathlib import Path
 
-from harness import programs
+from harness import kernel, programs
 from popd.service import Maildir, Service
 
 READY = b"+OK popd ready\r\n"
@@ -137,13 +137,14 @@ class Hostile(unittest.TestCase):
             b"+OK 2 messages\r\n-ERR bad command\r\n+OK\r\n")), 20)
 
     def test_an_octet_at_a_time(self):
-        """A client that drips its lines has them answered, and the server sleeps meanwhile."""
+        """A client that drips its lines has them answered, and the server sleeps between any two octets."""
         given = b"USER u\r\nPASS p\r\nSTAT\r\nx" + b"\r\nQUIT\r\n"
         with self.service.client() as client:
             work = seconds_of_work(self.process)
             for place in range(len(given)):
                 client.give(given[place:place + 1])
-                time.sleep(0.05)
+                kernel.wait_until_taken(client.socket)
+                kernel.wait_for_state(self.process, "S")
             self.assertLess(seconds_of_work(self.process) - work, WORK_ROOM)
             self.assertEqual(client.rest().count(b"\r\n"), 6)
         self.check_good_client()
@@ -153,9 +154,10 @@ class Hostile(unittest.TestCase):
         with self.service.client() as silent:
             self.assertEqual(silent.line(), READY)
             others = [self.service.client() for _ in range(20)]
-            work = seconds_of_work(self.process)
-            time.sleep(0.5)
-            self.assertLess(seconds_of_work(self.process) - work, WORK_ROOM)
+            kernel.wait_for_state(self.process, "S")
+            work = kernel.processor_time(self.process)
+            time.sleep(0.05)
+            self.assertEqual(kernel.processor_time(self.process), work)
         for client in others:
             with client:
                 self.assertEqual(client.log_in(), b"+OK 2 messages\r\n")

@@ -6,7 +6,7 @@ import unittest
 from contextlib import closing
 from pathlib import Path
 
-from harness import kernel, preload, programs
+from harness import kernel, preload, programs, waits
 from harness.kernel import LOOPBACK
 from popd import expected
 from popd.service import Maildir, Service, long_lines_allowed
@@ -264,7 +264,8 @@ class Changes(unittest.TestCase):
                 self.assertEqual(client.log_in(), b"-ERR maildrop unavailable\r\n")
 
     def test_python_refuses_a_wrong_password(self):
-        with Service(self.maildir) as service, self.assertRaisesRegex(poplib.error_proto, "-ERR refused"):
+        with Service(self.maildir, **waits.no_pauses(self)) as service, \
+                self.assertRaisesRegex(poplib.error_proto, "-ERR refused"):
             client = poplib.POP3(LOOPBACK, service.port, timeout=programs.SECONDS)
             with closing(client):
                 client.user("u")

@@ -14,7 +14,8 @@ MANY = 1_000
 FEW = 60
 # No clock of a file system of Linux goes in longer steps, so a folder that was at rest for this long can be listed.
 REST_SECONDS = 0.1
-# A folder that is never at rest is refused after two seconds.
+# A folder that is never at rest is refused after two seconds, a tenth of that here.
+HURRY = "10"
 MOST_SECONDS = 20
 
 
@@ -58,10 +59,14 @@ class Readers(unittest.TestCase):
         rows = client.ask_lines(b"UIDL").splitlines()[1:-1]
         self.assertEqual([row.split()[1] for row in rows], uids)
 
-    def meddled(self, *words, **meddling):
+    def hurried(self, library, **changes):
+        """The server with this library, and a clock that goes faster."""
+        hurry = self.enterContext(preload.library("hurry"))
+        return Service(self.maildir, LD_PRELOAD=f"{library} {hurry}", HURRY=HURRY, **changes)
+
+    def meddled(self, **meddling):
         library = self.enterContext(preload.library("meddle"))
-        names = {f"MEDDLE_{what.upper()}": os.fsdecode(path) for what, path in meddling.items()}
-        return Service(self.maildir, *words, LD_PRELOAD=str(library), **names)
+        return self.hurried(library, **{f"MEDDLE_{what.upper()}": os.fsdecode(path) for what, path in meddling.items()})
 
 
 class WhileItIsListed(Readers):
@@ -152,7 +157,7 @@ class WhileItIsListed(Readers):
             with self.subTest(part), Maildir(above="/dev/shm") as self.maildir:
                 self.fill(part, MANY)
                 reading = {"READER_MAILDIR": str(self.maildir.folder), "READER_CALL": "0", "READER_NOTE": "/dev/null"}
-                with Service(self.maildir, LD_PRELOAD=str(reader), **reading) as service, service.client() as client:
+                with self.hurried(reader, **reading) as service, service.client() as client:
                     begun = time.monotonic()
                     self.assertEqual(client.log_in(), b"-ERR maildrop unavailable\r\n")
                     self.assertLess(time.monotonic() - begun, MOST_SECONDS)

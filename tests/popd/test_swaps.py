@@ -4,6 +4,7 @@ no file in the place of another, and run by the superuser it follows no link in 
 import collections
 import contextlib
 import ctypes
+import itertools
 import multiprocessing
 import os
 import random
@@ -16,9 +17,10 @@ from pathlib import Path
 from harness import preload, programs
 from popd.service import Maildir, Service
 
-# How long each kind of swapping goes on; if the environment says it, what came of it is printed.
-SECONDS = float(os.environ.get("TESTS_SWAP_SECONDS", "2"))
-TELLS = "TESTS_SWAP_SECONDS" in os.environ
+# How many sessions there are for each kind of swapping; if the environment says how long it goes on, as many as come, and what
+# came of it is printed.
+SESSIONS = 20
+SECONDS = float(os.environ.get("TESTS_SWAP_SECONDS", "0"))
 # A folder is listed once it has rested for 20 milliseconds.
 BURST_SECONDS, REST_SECONDS = 0.002, 0.03
 MINE, SECRET = b"mine\r\n", b"root\r\n"
@@ -203,13 +205,15 @@ class Swapping(Swaps):
         arrange()
         with Swapper(encoded(paths)) as swapper, Service(self.maildir, by=by) as service:
             end = time.monotonic() + SECONDS
-            while time.monotonic() < end:
+            for number in itertools.count():
+                if number >= SESSIONS and time.monotonic() >= end:
+                    break
                 got = self.converse(service, swapper)
                 self.assertNotIn(SECRET, got)
                 self.assertEqual(self.taken_away(), 0)
                 counts.update(got)
                 arrange()
-        if TELLS:
+        if SECONDS:
             print(self.id(), dict(counts))
         return counts[MINE], counts[UNAVAILABLE]
 

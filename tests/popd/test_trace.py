@@ -4,7 +4,7 @@ import os
 import shutil
 import unittest
 
-from harness import programs, refused_steps
+from harness import programs, refused_steps, waits
 from harness.kernel import LOOPBACK
 from popd.service import Maildir, Service
 
@@ -54,7 +54,7 @@ class Trace(unittest.TestCase):
         self.assertEqual(lines_of(traced), TOLD)
 
     def test_over_a_connection(self):
-        with Service(self.maildir, "--trace", "--connections", "2") as service:
+        with Service(self.maildir, "--trace", "--connections", "2", **waits.no_pauses(self)) as service:
             for _ in range(2):
                 with service.client() as client:
                     client.line()

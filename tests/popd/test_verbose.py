@@ -7,7 +7,7 @@ import select
 import socket
 import unittest
 
-from harness import programs
+from harness import programs, waits
 from harness.kernel import LOOPBACK
 from popd.service import Maildir, Service
 
@@ -21,7 +21,7 @@ class Verbose(unittest.TestCase):
         self.paths = [self.maildir.add("new", name, b"one\n") for name in ("a", "b")]
 
     def service(self, connections=1):
-        return Service(self.maildir, "--verbose", "--connections", str(connections))
+        return Service(self.maildir, "--verbose", "--connections", str(connections), **waits.no_pauses(self))
 
     def talk(self, service, *commands, name=b"u", password=b"secret"):
         """Logs in and says these commands over a connection of its own; the address that it had, and the answers."""
