@@ -9,6 +9,39 @@ from harness import programs
 from harness.kernel import LOOPBACK
 
 
+def at_once(_, say, octets):
+    """A `give` that sends all octets."""
+    say(octets)
+
+
+class Moment:
+    """A moment in the sessions of a server: it has heard so many commands, and begun so many pieces of texts. Then it waits."""
+
+    def __init__(self, steps):
+        self.left = steps
+        self.is_over = False
+        self.changed = threading.Condition()
+
+    def step(self):
+        with self.changed:
+            self.left -= 1
+            self.changed.notify_all()
+            if self.left <= 0:
+                self.changed.wait_for(lambda: self.is_over, programs.SECONDS)
+
+    def wait(self, *processes):
+        """Waits for it, or until the processes have ended."""
+        with self.changed:
+            while self.left > 0 and any(process.poll() is None for process in processes):
+                self.changed.wait(0.01)
+
+    def end(self):
+        """The server goes on."""
+        with self.changed:
+            self.is_over = True
+            self.changed.notify_all()
+
+
 class SharedServer:
     """The messages, as pairs of a unique-id and a text whose lines end in LF.
 
@@ -19,7 +52,8 @@ class SharedServer:
 
     def __init__(self, messages=()):
         self.messages = list(messages)
-        self.give = lambda session, say, octets: say(octets)
+        self.give = at_once
+        self.step = lambda: None
         self.commands = {}
         self.began = 0
         self.running = 0
@@ -47,6 +81,21 @@ class SharedServer:
         with self.ended:
             if not self.ended.wait_for(lambda: self.running == 0, programs.SECONDS):
                 raise AssertionError("a session of the server didn't end")
+
+    def moment(self, steps, pieces=4, pause=0):
+        """A moment that comes after so many steps from now on; each text goes out in so many pieces, with pauses of so many
+        seconds before them."""
+        moment = Moment(steps)
+
+        def give(_, say, octets):
+            step = -(-len(octets) // pieces)
+            for place in range(0, len(octets), step):
+                moment.step()
+                time.sleep(pause)
+                say(octets[place:place + step])
+
+        self.step, self.give = moment.step, give
+        return moment
 
     def forget(self):
         """The next session is the first one again."""
@@ -87,6 +136,7 @@ class SharedServer:
                 return
             word, _, argument = line.removesuffix(b"\r\n").partition(b" ")
             commands.append(line.removesuffix(b"\r\n").decode())
+            self.step()
             if word == b"RETR":
                 self.give(session, client.sendall, b"+OK\r\n" + self._of(messages[int(argument) - 1][1])[0])
                 continue
@@ -115,13 +165,3 @@ class SharedServer:
             rows = (b"%d %d\r\n" % (k, self._of(text)[1]) for k, (_, text) in enumerate(messages, 1))
             return b"\r\n" + b"".join(rows) + b".\r\n"
         return b"\r\n"
-
-
-def in_pieces(pieces, pause):
-    """A `give` that sends at most this many pieces, `pause(session)` seconds before each."""
-    def give(session, say, octets):
-        step = -(-len(octets) // pieces)
-        for place in range(0, len(octets), step):
-            time.sleep(pause(session))
-            say(octets[place:place + step])
-    return give

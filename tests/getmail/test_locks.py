@@ -1,16 +1,16 @@
 """The lock of an account: while one run is at work, another one ends at once. If no lock can be had, nothing changes."""
 
+import collections
 import os
 import random
 import signal
 import stat
 import threading
-import time
 import unittest
 
 from getmail.account import Account
 from getmail.mbox_account import MboxAccount
-from getmail.shared_server import SharedServer, in_pieces
+from getmail.shared_server import SharedServer
 from harness import kernel, preload, programs
 from harness.mboxrd import entries
 
@@ -203,29 +203,37 @@ class Rounds(Locks):
 
     ROUNDS = int(os.environ.get("TESTS_LOCK_ROUNDS", "60"))
 
+    def setUp(self):
+        super().setUp()
+        self.ends = collections.Counter()
+
     def play(self, account, source, others):
-        """How runs ended that neither did all nor left it to another one."""
+        """The first of the runs has 21 steps."""
         self.server.forget()
         self.server.messages = list(SOME)
-        self.server.give = in_pieces(2, lambda session: 0.001)
         runs = [account.start("-q")]
         for _ in range(others):
-            time.sleep(source.uniform(0, 0.03))
+            moment = self.server.moment(source.randrange(24), pieces=2, pause=0.001)
+            moment.wait(*runs)
             runs.append(account.start("-q"))
-        ends = [finish(run) for run in runs]
+            moment.end()
+        self.ends.update(map(finish, runs))
         self.server.wait_for_end()
-        return [end for end in ends if end not in (programs.SILENT, AT_WORK)]
+
+    def check(self, doubled):
+        """No message came twice, each run did all or left it to another one, and some did that."""
+        self.assertEqual((doubled, set(self.ends)), (0, {programs.SILENT, AT_WORK}), f"of {self.ROUNDS}")
 
     def test_an_mboxrd_file(self):
-        source, doubled, odd = random.Random(67), 0, []
+        source, doubled = random.Random(67), 0
         for number in range(self.ROUNDS):
             with MboxAccount(self.server.port) as account:
-                odd += self.play(account, source, 1 + number % 2)
+                self.play(account, source, 1 + number % 2)
                 doubled += account.content() != entries(TEXTS)
-        self.assertEqual((doubled, odd), (0, []), f"of {self.ROUNDS}")
+        self.check(doubled)
 
     def test_a_maildir_with_a_reader(self):
-        source, doubled, odd = random.Random(68), 0, []
+        source, doubled = random.Random(68), 0
         for number in range(self.ROUNDS):
             with Account(self.server.port) as account:
                 over = threading.Event()
@@ -237,12 +245,12 @@ class Rounds(Locks):
                 reader = threading.Thread(target=read)
                 reader.start()
                 try:
-                    odd += self.play(account, source, 1 + number % 2)
+                    self.play(account, source, 1 + number % 2)
                 finally:
                     over.set()
                     reader.join(programs.SECONDS)
                 doubled += account.held() != SOME
-        self.assertEqual((doubled, odd), (0, []), f"of {self.ROUNDS}")
+        self.check(doubled)
 
 
 if __name__ == "__main__":

@@ -14,7 +14,7 @@ import unittest
 
 from getmail.mbox_account import OTHER, MboxAccount
 from getmail.server import Server
-from getmail.shared_server import SharedServer, in_pieces
+from getmail.shared_server import SharedServer
 from harness import growths, preload, programs
 from harness.mboxrd import entries
 
@@ -360,32 +360,40 @@ class Killed(Shared):
     def test_after_each_change_of_a_session_that_settles(self):
         self.check_each_change(THREE, lambda account: self.tear(account, 21))
 
-    def play(self, account, moment=None):
-        """A session, killed `moment` seconds after its start unless that is None; how long it took."""
-        self.server.give = in_pieces(4, lambda session: 0.002)
-        begun = time.monotonic()
+    def length(self, account):
+        """How many steps a session has that nobody kills."""
+        moment = self.server.moment(0)
+        moment.end()
+        self.session(account, "-d")
+        return -moment.left
+
+    def play(self, account, source, length):
+        """A session that is killed while the server waits, or a moment later; whether that was before its end."""
+        moment = self.server.moment(source.randrange(length + 1))
         process = account.start("-q", "-d")
-        if moment is not None:
-            time.sleep(moment)
-            process.kill()
+        moment.wait(process)
+        if source.random() < 0.5:
+            moment.end()
+            time.sleep(source.uniform(0, 0.003))
+        process.kill()
+        moment.end()
         process.communicate(timeout=programs.SECONDS)
-        took = time.monotonic() - begun
         self.server.wait_for_end()
-        self.server.give = in_pieces(1, lambda session: 0)
-        return took
+        return process.returncode == -signal.SIGKILL
 
     def test_at_any_moment(self):
         """Killed once, or again and again."""
         self.server.messages = list(LONG)
         with MboxAccount(self.server.port) as account:
-            length = self.play(account)
-        source = random.Random(30)
+            length = self.length(account)
+        source, killed = random.Random(30), 0
         for number in range(self.ROUNDS):
             self.server.messages = list(LONG)
             with self.subTest(number=number), MboxAccount(self.server.port) as account:
                 for _ in range(source.choice((1, 1, 2, 4))):
-                    self.play(account, source.uniform(0, length))
+                    killed += self.play(account, source, length)
                 self.check_killed(account, LONG, "-d")
+        self.assertGreater(killed, self.ROUNDS // 4)
 
 
 if __name__ == "__main__":

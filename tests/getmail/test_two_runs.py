@@ -14,7 +14,7 @@ import unittest
 
 from getmail.account import Account
 from getmail.server import Cut
-from getmail.shared_server import SharedServer, in_pieces
+from getmail.shared_server import SharedServer, at_once
 from harness import programs
 from harness.noted import noted
 
@@ -106,7 +106,7 @@ class AtOnce(TwoRuns):
         other_is_over.set()
         broken = self.finish(broken)
         self.server.wait_for_end()
-        self.server.give = in_pieces(1, lambda session: 0)
+        self.server.give = at_once
         return whole, broken
 
     def check_cut(self, cut):
@@ -129,46 +129,52 @@ class Killed(TwoRuns):
 
     ROUNDS = int(os.environ.get("TESTS_KILLS", "30"))
 
-    def start_both(self, source):
-        slow = source.choice((1, 2))
+    def start_both(self, source, steps):
+        """Both runs, and a moment of their sessions."""
         self.server.forget()
         self.server.messages = list(SOME)
-        self.server.give = in_pieces(4, lambda session: 0.002 if session == slow else 0.0005)
+        moment = self.server.moment(steps, pause=0.001)
         processes = []
         for _ in range(2):
             processes.append(self.account.start("-q", "-d"))
             time.sleep(source.uniform(0, 0.004))
-        return processes
+        return processes, moment
 
-    def play(self, source, moment):
-        processes = self.start_both(source)
-        time.sleep(moment)
+    def play(self, source, steps):
+        """How many runs were killed, while the server waits or a moment later."""
+        processes, moment = self.start_both(source, steps)
+        moment.wait(*processes)
+        if source.random() < 0.5:
+            moment.end()
         for process in processes:
-            process.kill()
             time.sleep(source.uniform(0, 0.003))
-        for process in processes:
-            self.assertIn(self.finish(process).status, (0, 1, -signal.SIGKILL))
+            process.kill()
+        moment.end()
+        ends = [self.finish(process).status for process in processes]
+        self.assertLessEqual(set(ends), {0, 1, -signal.SIGKILL})
         self.server.wait_for_end()
         self.check_nothing_lost_or_torn(SOME)
-        self.server.give = in_pieces(1, lambda session: 0)
         self.check_completed(SOME)
+        return ends.count(-signal.SIGKILL)
 
     def length(self, source):
-        """How long two runs that nobody kills take, in seconds."""
-        begun = time.monotonic()
-        for process in self.start_both(source):
+        """How many steps two runs have that nobody kills."""
+        processes, moment = self.start_both(source, 0)
+        moment.end()
+        for process in processes:
             self.assertIn(self.finish(process).status, (0, 1))
         self.server.wait_for_end()
-        return time.monotonic() - begun
+        return -moment.left
 
     def test_both_are_killed(self):
-        source = random.Random(25)
+        source, killed = random.Random(25), 0
         length = self.length(source)
         for number in range(self.ROUNDS):
             with self.subTest(number=number), Account(self.server.port) as account:
                 self.account = account
                 self.account.refuse_lock()
-                self.play(source, length * number / self.ROUNDS)
+                killed += self.play(source, length * number // self.ROUNDS)
+        self.assertGreater(killed, self.ROUNDS // 4)
 
 
 class Flushed(TwoRuns):
