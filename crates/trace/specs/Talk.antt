@@ -34,13 +34,13 @@ CountsRow old (Some Uidl) new = (new.uids ≡ min (old.uids + 1) (2 ^ 32 - 1)) �
 CountsRow old asked new = (new.uids ≡ old.uids) × (new.sizes ≡ min (old.sizes + 1) (2 ^ 32 - 1))
 
 -- a part was kept: a command has no answer and no row yet
-abbrev pub Keeps : Said → Option Asked → Spoken → Said → Type 0
-Keeps old asked (Command command) new =
+abbrev pub KeepsSpoken : Said → Option Asked → Spoken → Said → Type 0
+KeepsSpoken old asked (Command command) new =
     (new ≡ record old { command = new.command; answer = new.answer; row = new.row })
     × IsText command.now new.command.items × (new.answer.items ≡ []) × (new.row.items ≡ [])
-Keeps old asked (Answer answer) new = (new ≡ record old { answer = new.answer; count = new.count })
+KeepsSpoken old asked (Answer answer) new = (new ≡ record old { answer = new.answer; count = new.count })
     × IsText (take most_shown answer.octets.items) new.answer.items × KeepsCount old asked new
-Keeps old asked (Row row) new = (new ≡ record old { row = new.row; uids = new.uids; sizes = new.sizes })
+KeepsSpoken old asked (Row row) new = (new ≡ record old { row = new.row; uids = new.uids; sizes = new.sizes })
     × ((line : List ℕ) × IsTrimAsciiEnd (take most_shown row.octets.items) line × IsText line new.row.items)
     × CountsRow old asked new
-Keeps old asked End new = new ≡ old
+KeepsSpoken old asked End new = new ≡ old

@@ -61,27 +61,29 @@ IsRowOf trace text heard = ⊥
 
 -- a part of a conversation was heard, of which this is shown or kept: of a command what hides secrets, of an answer its
 -- first line with the password hidden, of a body its rows or its end; its lines and octets are counted
-abbrev pub Hears : {E : Type 0} → Trace E → Note → Trace E → Option Spoken → Type 0
-Hears old (Command asked command) new (Some (SpokenCommand shown)) =
+abbrev pub HearsPart : {E : Type 0} → Trace E → Note → Trace E → Option Spoken → Type 0
+HearsPart old (Command asked command) new (Some (SpokenCommand shown)) =
     (new ≡ record old { asked = asked; mask = new.mask }) × ComesAfter old.mask.moment command.now new.mask.moment
     × (shown.now ≡ take most_shown (shown_command command.now))
-Hears old (Reply answer) new (Some (Answer shown)) =
+HearsPart old (Reply answer) new (Some (Answer shown)) =
     (new ≡ record old { lines = 0; octets = 0 }) × IsHidden old answer.now shown
-Hears old Refused new None = new ≡ record old { talk = None }
-Hears old (Count count) new None = new ≡ old
-Hears old (Body text octets true) new (Some End) = HasCounted old text.now octets new
-Hears old (Body text octets false) new row = HasCounted old text.now octets new × IsRowOf old text.now row
-Hears old part new heard = ⊥
+HearsPart old Refused new None = new ≡ record old { talk = None }
+HearsPart old (Count count) new None = new ≡ old
+HearsPart old (Body text octets true) new (Some End) = HasCounted old text.now octets new
+HearsPart old (Body text octets false) new row = HasCounted old text.now octets new × IsRowOf old text.now row
+HearsPart old part new heard = ⊥
 
 -- what was heard was shown, but no row
-abbrev pub Shows : {E : Type 0} → (E → Option (List ℕ)) → Trace E → Spoken → Option E → Type 0
-Shows contents old (SpokenCommand command) new = AddsTraceLine contents old.err new (codes "C: ") command.now
-Shows contents old (Answer answer) new =
+abbrev pub ShowsHeard : {E : Type 0} → (E → Option (List ℕ)) → Trace E → Spoken → Option E → Type 0
+ShowsHeard contents old (SpokenCommand command) new = AddsTraceLine contents old.err new (codes "C: ") command.now
+ShowsHeard contents old (Answer answer) new =
     AddsTraceLine contents old.err new (codes "S: ") (take most_shown answer.octets.items)
-Shows contents old (Row row) new = new ≡ old.err
-Shows contents old End new = AddsTraceLine contents old.err new (codes "S: ") (count_text old.lines (old.octets - 3))
+ShowsHeard contents old (Row row) new = new ≡ old.err
+ShowsHeard contents old End new =
+    AddsTraceLine contents old.err new (codes "S: ") (count_text old.lines (old.octets - 3))
 
 -- a part of a conversation was shown, if anything is shown of it
 abbrev pub ShowsPart : {E : Type 0} → (E → Option (List ℕ)) → Trace E → Note → Trace E → Type 0
-ShowsPart contents old part new = (heard : Option Spoken) × (then : Trace _) × Hears old part then heard
-    × MatchOption heard (new ≡ then) (λ spoken. (new ≡ record then { err = new.err }) × Shows contents then spoken new.err)
+ShowsPart contents old part new = (heard : Option Spoken) × (then : Trace _) × HearsPart old part then heard
+    × MatchOption heard (new ≡ then)
+    (λ spoken. (new ≡ record then { err = new.err }) × ShowsHeard contents then spoken new.err)

@@ -1,6 +1,6 @@
 //! What was said in a conversation, to tell where it went wrong.
 ghost use Rattle.std.specs.Prelude.{OnOk};
-ghost use Rattle.trace.specs.Talk.{IsSilent, Keeps};
+ghost use Rattle.trace.specs.Talk.{IsSilent, KeepsSpoken};
 
 use crate::masking::Shown;
 use pop3_wire::Asked;
@@ -60,7 +60,7 @@ impl Said {
         asked: Option<Asked>,
         spoken: &Spoken<'_>,
     ) -> Result<(), AllocError>
-        ensures { OnOk result (Keeps self.old asked spoken.now self.new) }
+        ensures { OnOk result (KeepsSpoken self.old asked spoken.now self.new) }
     {
         match spoken {
             Spoken::Command(command) => {

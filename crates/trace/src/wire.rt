@@ -1,6 +1,6 @@
 //! A link that is traced.
 ghost use Rattle.std.specs.Prelude.{◌≡◌, ◌-◌, ℕ, List, Some, IfOk, IsSome, OnOk, codes, option_map};
-ghost use Rattle.trace.specs.Wire.{AddsTraceLine, Counts, Hears, Hides, IsRowOf, Shows, ShowsPart, count_text};
+ghost use Rattle.trace.specs.Wire.{AddsTraceLine, Counts, HearsPart, Hides, IsRowOf, ShowsHeard, ShowsPart, count_text};
 
 use crate::command::{cut, shown_command};
 use crate::masking::Mask;
@@ -58,7 +58,7 @@ impl<'a, E: Write> Trace<'a, E> {
 
     /// Takes a part of the conversation. What is shown or kept of it is returned.
     fn hear<'b>(&mut self, part: Note<'b>) -> Result<Option<Spoken<'b>>, AllocError>
-        ensures heard { IfOk result (Hears self.old part.entry self.new) }
+        ensures heard { IfOk result (HearsPart self.old part.entry self.new) }
         ensures same { (self.new.mask.password ≡ self.old.mask.password) × (self.new.err ≡ self.old.err) }
     {
         match part {
@@ -116,9 +116,9 @@ impl<'a, E: Write> Trace<'a, E> {
         self.write("S: ", text.as_bytes())
     }
 
-    /// Shows what was heard.
+    /// ShowsHeard what was heard.
     fn show(&mut self, heard: &Spoken<'_>) -> io::Result<()>
-        ensures shown { OnOk result (Shows E.contents self.old heard.now self.new.err) }
+        ensures shown { OnOk result (ShowsHeard E.contents self.old heard.now self.new.err) }
         ensures same { self.new ≡ record self.old { err = self.new.err } }
     {
         match heard {
@@ -129,7 +129,7 @@ impl<'a, E: Write> Trace<'a, E> {
         }
     }
 
-    /// Shows a part of the conversation, unless it is within a body, and keeps what tells where it went wrong.
+    /// ShowsHeard a part of the conversation, unless it is within a body, and keeps what tells where it went wrong.
     fn note(&mut self, part: Note<'_>) -> io::Result<()>
         ensures shown { OnOk result (ShowsPart E.contents self.old part.entry self.new) }
         ensures same { self.new.mask.password ≡ self.old.mask.password }
