@@ -5,8 +5,8 @@ import unittest
 
 from getmail.account import MEMORY, Account
 from getmail.shared_server import SharedServer
-from harness import preload
-from harness.power import BLOCK, rows_of
+from harness.noted import noted
+from harness.power import BLOCK
 
 LETTERS = [(b"uid-%d" % number, b"Subject: %d\n\ntext\n" % number) for number in range(3)]
 NEW = (b"new", b"one more\n")
@@ -22,7 +22,7 @@ def blocks_of(start, octets):
 
 class Flushes(unittest.TestCase):
     def setUp(self):
-        self.noting = self.enterContext(preload.library("note_changes"))
+        self.noted = self.enterContext(noted())
         self.server = self.enterContext(SharedServer(LETTERS))
         self.account = self.enterContext(Account(self.server.port, above=MEMORY))
 
@@ -37,12 +37,11 @@ class Flushes(unittest.TestCase):
     def flushes_of_run(self, *words):
         """What a run that ends well flushes."""
         paths = {str(path.stat().st_ino): path for path in self.account.home.rglob("*")}
-        note = self.account.home / "note"
-        run = self.account.run("-q", *words, LD_PRELOAD=str(self.noting), CHANGES_NOTE=str(note))
+        run = self.account.run("-q", *words, **self.noted.environment())
         self.server.wait_for_end()
         self.assertEqual((run.status, run.out, run.err), (0, b"", b""))
         found = []
-        for (word, *rest), _ in rows_of(note.read_bytes()):
+        for (word, *rest), _ in self.noted.rows():
             if word == "make":
                 paths[rest[0]] = rest[1]
             elif word == "rename":
@@ -51,7 +50,6 @@ class Flushes(unittest.TestCase):
                 found.append(self.name_of(paths[rest[0]]))
             elif word == "flush-folder":
                 found.append(self.name_of(rest[0]))
-        note.unlink()
         return found
 
     def test_the_first_session(self):
