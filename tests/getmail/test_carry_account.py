@@ -10,7 +10,6 @@ import subprocess
 import sys
 import tempfile
 import threading
-import time
 import unittest
 from pathlib import Path
 from unittest import mock
@@ -488,12 +487,10 @@ class Reading(InHome):
         self.play(self.read_new_ones, NONE)
 
     def test_two_changes_at_one_tick_of_the_clock(self):
-        """A folder has one time after both, where times are kept in whole seconds, each a tenth of one here."""
+        """A folder has one time after both, where times are kept in whole seconds."""
         path, times = self.path("new", self.home.old, b"d"), self.script.Maildir.times
         self.enterContext(mock.patch.object(self.script.Maildir, "times", lambda maildir: [
-            changed // 100_000_000 * 1_000_000_000 for changed in times(maildir)]))
-        self.enterContext(mock.patch.object(self.script, "time", mock.Mock(
-            time=time.time, time_ns=lambda: 10 * time.time_ns(), sleep=lambda seconds: time.sleep(seconds / 10))))
+            time // 1_000_000_000 * 1_000_000_000 for time in times(maildir)]))
         for number in (4, 4):
             self.home.restore()
             self.moved = set()
