@@ -789,7 +789,7 @@ class Timer(Regular):
                 shutil.copy(account.rcfile, account.folder / "work")
                 first = self.start(account, self.words(unit, account))
                 try:
-                    server.taken.wait(programs.SECONDS)
+                    self.assertTrue(server.taken.wait(programs.SECONDS))
                     self.assertEqual(self.run_whole(account, self.words(unit, account)), (0, b""))
                     self.assertIsNone(first.poll())
                 finally:
@@ -835,7 +835,7 @@ class Cron(Regular):
         with SilentServer(b"+OK\r\n") as server, Account(server.port) as account:
             first = self.start(account)
             try:
-                server.taken.wait(programs.SECONDS)
+                self.assertTrue(server.taken.wait(programs.SECONDS))
                 self.assertEqual(self.run_whole(account), (0, b""))
                 self.assertIsNone(first.poll())
             finally:

@@ -3,6 +3,7 @@ look at them, folders that can't be read to their end, a record whose replacemen
 can't be had."""
 
 import os
+from unittest import mock
 
 from getmail.one_account import RECORD_REFUSED, REFUSED, THREE, OneAccount
 from harness import preload, programs
@@ -13,14 +14,12 @@ UNREADABLE = programs.Run(2, b"", b"getmail: cannot read rc file\n")
 class OtherHands(OneAccount):
     @classmethod
     def setUpClass(cls):
-        library = preload.library("other_hands")
-        cls.library = library.__enter__()
-        cls.addClassCleanup(library.__exit__, None, None, None)
+        cls.library = " ".join(str(cls.enterClassContext(preload.library(name))) for name in ("other_hands", "hurry"))
 
     def session(self, *words, bound=None, **others):
         """One run against one session, with what the other hands are to do."""
         changes = {f"OTHER_{what}": str(value) for what, value in others.items()}
-        return super().session(*words, bound=bound, LD_PRELOAD=str(self.library), **changes)
+        return super().session(*words, bound=bound, LD_PRELOAD=self.library, **changes)
 
     def hold_in_cur(self, uid, text, flags=":2,"):
         """Puts a held message's file into `cur`."""
@@ -53,9 +52,10 @@ class OtherHands(OneAccount):
         self.assertEqual(self.account.held(), THREE)
 
     def test_a_folder_that_changes_and_has_its_times_put_back(self):
-        """It is listed again until it rests, and then nothing is reported."""
+        """It is listed again until it rests, and then nothing is reported; two seconds are a tenth of that here."""
         self.hold_in_cur(*THREE[0])
-        run, commands = self.session("-d", BRIEF=self.account.maildir / "cur" / "brief")
+        with mock.patch.dict(os.environ, HURRY="10"):
+            run, commands = self.session("-d", BRIEF=self.account.maildir / "cur" / "brief")
         self.assertEqual((run, commands), (REFUSED, ["RSET", "QUIT"]))
 
     def test_a_record_whose_replacement_is_refused(self):
@@ -76,6 +76,6 @@ class OtherHands(OneAccount):
     def test_each_draw_of_random(self):
         """The keys of the record's table are drawn, and the mark of the files in `tmp`; there is no third draw."""
         for number in (1, 2):
-            run = self.account.run("-q", LD_PRELOAD=str(self.library), OTHER_RANDOM=str(number))
+            run = self.account.run("-q", LD_PRELOAD=self.library, OTHER_RANDOM=str(number))
             self.assertEqual(run, UNREADABLE)
         self.assertEqual(self.session(RANDOM=3), (programs.SILENT, ["RETR 1", "RETR 2", "RETR 3", "QUIT"]))

@@ -6,7 +6,7 @@ import threading
 import unittest
 
 from getmail.account import Account
-from harness import programs
+from harness import programs, waits
 from popd.service import Maildir, Service
 
 TEXTS = {
@@ -24,7 +24,7 @@ class Together(unittest.TestCase):
     def setUp(self):
         self.served = Maildir(b"sesame\n")
         self.addCleanup(self.served.holder.cleanup)
-        service = Service(self.served)
+        service = Service(self.served, **waits.no_pauses(self))
         service.__enter__()
         self.addCleanup(service.__exit__)
         self.account = Account(service.port)
