@@ -14,7 +14,8 @@
 
    Each octet in the named pipe, which the test has open, is a second. The program takes it while it waits in a poll, or for
    a socket that isn't ready and has a bound: so much less is left of the bound, and the monotonic clock is so much later.
-   A sleep of a second or more is over at once, and the clock is later by that; this alone with an empty HURRY_TIME. */
+   A sleep of a second or more is over at once, and the clock is later by that; this alone with an empty HURRY_TIME. With
+   HURRY_NAPS=1 it is a shorter sleep that takes the seconds, all that there are, and no wait does. */
 
 #include "preloaded.h"
 #include <netinet/in.h>
@@ -32,6 +33,7 @@ static long speed = 1;
 static long passed = 0;
 static int time_pipe = -1;
 static int has_no_sleep = 0;
+static int has_naps = 0;
 
 __attribute__((constructor)) static void begin(void)
 {
@@ -40,6 +42,7 @@ __attribute__((constructor)) static void begin(void)
     speed = number_in("HURRY", 1);
     open_note("HURRY_NOTE");
     has_no_sleep = pipe != NULL;
+    has_naps = getenv("HURRY_NAPS") != NULL;
     if (pipe && *pipe)
         time_pipe = open(pipe, O_RDONLY | O_NONBLOCK | O_CLOEXEC);
 }
@@ -80,7 +83,7 @@ static int wait_for(struct pollfd *asked, nfds_t count, long *left)
     if (count >= MOST_ASKED)
         abort();
     memcpy(all, asked, count * sizeof *asked);
-    all[count] = (struct pollfd){*left < 0 ? -1 : time_pipe, POLLIN, 0};
+    all[count] = (struct pollfd){*left < 0 || has_naps ? -1 : time_pipe, POLLIN, 0};
     do {
         ready = next(all, count + 1, (int)*left);
         if (ready > 0 && all[count].revents)
@@ -149,9 +152,13 @@ int nanosleep(const struct timespec *asked, struct timespec *left)
     NEXT(nanosleep);
     long milliseconds = asked->tv_sec * 1000 + asked->tv_nsec / 1000000;
     struct timespec part = {milliseconds / speed / 1000, milliseconds / speed % 1000 * 1000000};
+    long all = LONG_MAX - 999;
 
-    if (asked->tv_sec == 0)
+    if (asked->tv_sec == 0) {
+        if (has_naps)
+            take_time(&all);
         return next(asked, left);
+    }
     write_down("sleep %ld\n", milliseconds);
     if (!has_no_sleep)
         return next(&part, left);

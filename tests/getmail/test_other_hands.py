@@ -6,7 +6,7 @@ import os
 from unittest import mock
 
 from getmail.one_account import RECORD_REFUSED, REFUSED, THREE, OneAccount
-from harness import preload, programs
+from harness import preload, programs, waits
 
 UNREADABLE = programs.Run(2, b"", b"getmail: cannot read rc file\n")
 
@@ -14,7 +14,8 @@ UNREADABLE = programs.Run(2, b"", b"getmail: cannot read rc file\n")
 class OtherHands(OneAccount):
     @classmethod
     def setUpClass(cls):
-        cls.library = " ".join(str(cls.enterClassContext(preload.library(name))) for name in ("other_hands", "hurry"))
+        cls.time = waits.time_for(cls)
+        cls.library = f"{cls.enterClassContext(preload.library('other_hands'))} {cls.time.library}"
 
     def session(self, *words, bound=None, **others):
         """One run against one session, with what the other hands are to do."""
@@ -52,10 +53,12 @@ class OtherHands(OneAccount):
         self.assertEqual(self.account.held(), THREE)
 
     def test_a_folder_that_changes_and_has_its_times_put_back(self):
-        """It is listed again until it rests, and then nothing is reported; two seconds are a tenth of that here."""
+        """It is listed again until it rests, for two seconds, and then nothing is reported."""
         self.hold_in_cur(*THREE[0])
-        with mock.patch.dict(os.environ, HURRY="10"):
+        with mock.patch.dict(os.environ, self.time.environment(), HURRY_NAPS="1"):
+            self.time.give(2)
             run, commands = self.session("-d", BRIEF=self.account.maildir / "cur" / "brief")
+        self.assertEqual(self.time.taken(), 2)
         self.assertEqual((run, commands), (REFUSED, ["RSET", "QUIT"]))
 
     def test_a_record_whose_replacement_is_refused(self):

@@ -11,11 +11,13 @@ import unittest
 
 from getmail.account import Account
 from getmail.shared_server import SharedServer
-from harness import kernel, preload, programs
+from harness import kernel, preload, programs, waits
 
 COUNT = 2000
 RUNS = int(os.environ.get("TESTS_READER_RUNS", "20"))
 REFUSED = b"getmail: destination refused\n"
+# A folder that is never at rest is refused after so many seconds.
+RESTLESS_SECONDS = 2
 
 
 def other_name(name):
@@ -179,18 +181,21 @@ class WithReader(Reading):
         cls.library = library.__enter__()
         cls.addClassCleanup(library.__exit__, None, None, None)
 
-    def read_at(self, call, *libraries, **changes):
+    def read_at(self, call, **changes):
         """A run whose reader works before that call, and whether there was such a call."""
         note = self.account.home / "note"
         note.unlink(missing_ok=True)
-        run = self.run_once(LD_PRELOAD=" ".join(map(str, (self.library, *libraries))), READER_MAILDIR=str(self.account.maildir),
+        run = self.run_once(LD_PRELOAD=f"{self.library} {changes.pop('LD_PRELOAD', '')}", READER_MAILDIR=str(self.account.maildir),
                             READER_CALL=str(call), READER_NOTE=str(note), **changes)
         return run, note.exists()
 
     def check_restless(self):
-        """A run says that it was refused and stores nothing, after two seconds, a tenth of that here; the next one goes on once
-        the reader rests."""
-        run, came = self.read_at(0, self.enterContext(preload.library("hurry")), HURRY="10")
+        """A run says that it was refused and stores nothing, after two seconds; the next one goes on once the reader rests."""
+        passing = waits.time_for(type(self))
+        environment = passing.environment()
+        passing.give(RESTLESS_SECONDS)
+        run, came = self.read_at(0, HURRY_NAPS="1", **environment)
+        self.assertEqual(passing.taken(), RESTLESS_SECONDS)
         self.assertTrue(came)
         self.assertEqual(run, programs.Run(1, b"", REFUSED))
         self.check_run(run)

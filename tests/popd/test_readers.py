@@ -7,16 +7,15 @@ import time
 import unittest
 from pathlib import Path
 
-from harness import kernel, preload
+from harness import kernel, preload, programs, waits
 from popd.service import Maildir, Service
 
 MANY = 1_000
 FEW = 60
 # No clock of a file system of Linux goes in longer steps, so a folder that was at rest for this long can be listed.
 REST_SECONDS = 0.1
-# A folder that is never at rest is refused after two seconds, a tenth of that here.
-HURRY = "10"
-MOST_SECONDS = 20
+# A folder that is never at rest is refused after so many seconds.
+RESTLESS_SECONDS = 2
 
 
 class Reader:
@@ -43,6 +42,10 @@ class Reader:
 
 
 class Readers(unittest.TestCase):
+    @classmethod
+    def setUpClass(cls):
+        cls.time = waits.time_for(cls)
+
     def setUp(self):
         self.maildir = Maildir()
         self.addCleanup(self.maildir.holder.cleanup)
@@ -59,14 +62,15 @@ class Readers(unittest.TestCase):
         rows = client.ask_lines(b"UIDL").splitlines()[1:-1]
         self.assertEqual([row.split()[1] for row in rows], uids)
 
-    def hurried(self, library, **changes):
-        """The server with this library, and a clock that goes faster."""
-        hurry = self.enterContext(preload.library("hurry"))
-        return Service(self.maildir, LD_PRELOAD=f"{library} {hurry}", HURRY=HURRY, **changes)
-
     def meddled(self, **meddling):
         library = self.enterContext(preload.library("meddle"))
-        return self.hurried(library, **{f"MEDDLE_{what.upper()}": os.fsdecode(path) for what, path in meddling.items()})
+        names = {f"MEDDLE_{what.upper()}": os.fsdecode(path) for what, path in meddling.items()}
+        return self.napping(library, **names)
+
+    def napping(self, library, **changes):
+        """The server with this library; time passes while it waits for a folder to rest."""
+        changes = {**self.time.environment(), "HURRY_NAPS": "1", **changes}
+        return Service(self.maildir, **{**changes, "LD_PRELOAD": f"{library} {self.time.library}"})
 
 
 class WhileItIsListed(Readers):
@@ -132,8 +136,17 @@ class WhileItIsListed(Readers):
                         self.assertEqual(client.ask_lines(b"RETR 1"), b"+OK 5 octets\r\none\r\n.\r\n")
                     self.assertTrue(moved.exists())
 
+    def check_restless(self, client):
+        """A login is refused once so much time has passed."""
+        client.socket.settimeout(programs.NEXT_OUTPUT_SECONDS)
+        client.line()
+        client.ask(b"USER u")
+        client.give(b"PASS p\r\n")
+        self.time.let_pass(RESTLESS_SECONDS)
+        self.assertEqual(client.line(), b"-ERR maildrop unavailable\r\n")
+
     def test_a_folder_that_finds_no_rest(self):
-        """It is changed whenever it is listed: the maildrop is refused within some seconds, and served afterwards."""
+        """It is changed whenever it is listed: the maildrop is refused after some seconds, and served afterwards."""
         for part in ("new", "cur"):
             with self.subTest(part), Maildir() as self.maildir:
                 path = os.fsdecode(self.maildir.add(part, "a:2,", b"one\n"))
@@ -141,9 +154,7 @@ class WhileItIsListed(Readers):
                 goes_on.touch()
                 meddling = {"restless": f"{self.maildir.folder / part}/", "from": path, "to": path + "S"}
                 with self.meddled(**meddling, when=goes_on) as service, service.client() as client:
-                    begun = time.monotonic()
-                    self.assertEqual(client.log_in(), b"-ERR maildrop unavailable\r\n")
-                    self.assertLess(time.monotonic() - begun, MOST_SECONDS)
+                    self.check_restless(client)
                     goes_on.unlink()
                     client.ask(b"USER u")
                     self.assertEqual(client.ask(b"PASS p"), b"+OK 1 messages\r\n")
@@ -157,10 +168,8 @@ class WhileItIsListed(Readers):
             with self.subTest(part), Maildir(above="/dev/shm") as self.maildir:
                 self.fill(part, MANY)
                 reading = {"READER_MAILDIR": str(self.maildir.folder), "READER_CALL": "0", "READER_NOTE": "/dev/null"}
-                with self.hurried(reader, **reading) as service, service.client() as client:
-                    begun = time.monotonic()
-                    self.assertEqual(client.log_in(), b"-ERR maildrop unavailable\r\n")
-                    self.assertLess(time.monotonic() - begun, MOST_SECONDS)
+                with self.napping(reader, **reading) as service, service.client() as client:
+                    self.check_restless(client)
 
 
 class WhileItIsServed(Readers):
