@@ -717,6 +717,12 @@ class Readme(Copied):
         self.assertIn("It works.\n", shown)
         self.assertTrue((home / ".local/bin/getmail").is_file() and list((self.top / "dist").glob("*.tar.gz")))
 
+    def test_the_command_that_starts_the_tunnel(self):
+        """It is that of stunnel.conf, to which a hint leads: also after a kill that has left the socket."""
+        tunnel = readme_blocks()[3][0].removeprefix("tunnel='").removesuffix("'")
+        self.assertTrue(tunnel.startswith("rm -f ~/.getmail/tunnel/pop3s; "), tunnel)
+        self.assertIn(f";      `{tunnel}`.\n", (programs.ROOT / "examples/stunnel.conf").read_text())
+
     def test_the_line_that_serves(self):
         (line,), port = readme_blocks()[-2], kernel.free_port()
         with tempfile.TemporaryDirectory() as holder:

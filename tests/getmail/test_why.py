@@ -17,7 +17,7 @@ NO_MEMBER = "No such file or directory"
 PASSWORD = "username or password is wrong; in the rc file a comment has a line of its own"
 MAILDIR = "mkdir -p makes it: a Maildir is a folder with the folders cur, new and tmp"
 TUNNEL = "the tunnel's own log says why: journalctl --user -u getmail-tunnel, or the file that stunnel.conf names"
-START = "is the tunnel started? systemctl --user start getmail-tunnel.socket, or stunnel ~/.getmail/stunnel.conf"
+START = "is the tunnel started? systemctl --user start getmail-tunnel.socket, or the command in stunnel.conf"
 
 
 class Sessions(unittest.TestCase):

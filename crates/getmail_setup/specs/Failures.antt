@@ -85,7 +85,7 @@ IsToldCause true account failure text = (text ≡ []) ⊎ ((reason : List ℕ) �
 -- a tunnel that isn't started takes no connection: how it is started, if reasons are asked for
 abbrev pub start_hint : Bool → Option Settings → Failure → List ℕ
 start_hint true account (CannotConnect server port) = if is_local server.now then cause_line account []
-    (codes "is the tunnel started? systemctl --user start getmail-tunnel.socket, or stunnel ~/.getmail/stunnel.conf")
+    (codes "is the tunnel started? systemctl --user start getmail-tunnel.socket, or the command in stunnel.conf")
     else []
 start_hint asked account failure = []
 

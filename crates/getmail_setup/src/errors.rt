@@ -96,7 +96,7 @@ const LIST_REASON: &str =
 
 /// How a tunnel is started.
 const START: &str =
-    "is the tunnel started? systemctl --user start getmail-tunnel.socket, or stunnel ~/.getmail/stunnel.conf";
+    "is the tunnel started? systemctl --user start getmail-tunnel.socket, or the command in stunnel.conf";
 
 /// What was asked of the system before the session and what it said.
 fn refused_before(alloc: Global, reasons: &Reasons) -> Option<Vec<u8>> {
