@@ -291,11 +291,14 @@ impl<'a, R: Files + AllocGlobal> HostFolder<'a, R> {
     // stands for anything else.
     fn open_if_there(&self, name: &str) -> Result<Option<Noted<'a, R::File>>, Denial> {
         let file = match self.open_regular(name) {
-            Err(fault) if fault.kind() == ErrorKind::NotFound => {
+            Ok(file) => file,
+            Err(fault) => {
+                if fault.kind() != ErrorKind::NotFound {
+                    return Err(fault);
+                }
                 self.check_gone(name)?;
                 return Ok(None);
             }
-            answer => answer?,
         };
         if file.at(file.metadata())?.is_dir() {
             return Err(self.paths.refusal(name, IRREGULAR));
@@ -318,13 +321,16 @@ impl<'a, R: Files + AllocGlobal> HostFolder<'a, R> {
 
     // The path of what has a name and can't be opened, and why; None if it can be, or has gone.
     pub(crate) fn obstruction(&self, name: &str) -> Result<Option<Vec<u8>>, Denial> {
-        match self.open_if_there(name) {
-            Ok(_) => Ok(None),
-            Err(fault) if self.is_odd(name, &fault) => match fault.into_refusal() {
-                Some(refusal) => Ok(Some(refusal.text(self.system.alloc())?)),
-                None => Err(Denial::from(AllocError)),
-            },
-            Err(fault) => Err(fault),
+        let fault = match self.open_if_there(name) {
+            Ok(_file) => return Ok(None),
+            Err(fault) => fault,
+        };
+        if !self.is_odd(name, &fault) {
+            return Err(fault);
+        }
+        match fault.into_refusal() {
+            Some(refusal) => Ok(Some(refusal.text(self.system.alloc())?)),
+            None => Err(Denial::from(AllocError)),
         }
     }
 
