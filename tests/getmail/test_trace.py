@@ -61,9 +61,11 @@ class Rehearsal(unittest.TestCase):
         self.check([b"+OK " + b"x" * 3000], ["S: +OK " + "x" * 508])
 
     def test_octets_above_ascii(self):
-        """They are shown if all of the line is UTF-8, and no control character is among them."""
+        """They are shown if all of the line is UTF-8, and no character changes how a line is shown."""
         for line, shown in ((b"\xe2\x82\xac 5", "€ 5"), (b"\xe2\x82\xac \xff", r"\xe2\x82\xac \xff"),
-                            (b"\xc2\x9b2J", r"\xc2\x9b2J"), (b"\xc3", r"\xc3"), (b"\x7f\t", r"\x7f\x09")):
+                            (b"\xc2\x9b2J", r"\xc2\x9b2J"), (b"\xc3", r"\xc3"), (b"\x7f\t", r"\x7f\x09"),
+                            (b"\xe2\x80\xae\xd0\xb6", r"\xe2\x80\xae\xd0\xb6"), (b"a\xe2\x80\x8bb", r"a\xe2\x80\x8bb"),
+                            (b"\xf3\xa0\x81\xa1", r"\xf3\xa0\x81\xa1"), (b"\xd0\xb6", "ж")):
             with self.subTest(line):
                 run = programs.run("getmail", "--rehearse", "--trace", given=b"+OK " + line + b"\r\n")
                 self.assertEqual(lines_of(run)[0], f"S: +OK {shown}")

@@ -3,14 +3,25 @@ use Rattle.std.specs.{
   Prelude.{◌≡◌, ◌↔◌, ◌==◌, ◌&&◌, ◌||◌, ℕ, Bool, false, not, nat_le, nat_lt, List, [], ◌∷◌, ◌++◌, IsTrue, Option, codes},
   Prelude.if◌then◌else◌,
   List.{flat_map, list_any},
-  Str.IsUtf8,
+  Int.is_in_range,
+  Str.{IsUtf8, chars},
   Io.KnownBytes.Appends,
 }
 use Rattle.hex.specs.Hex.{encode_lower}
 
--- UTF-8 with no character from U+0080 to U+00BF
+-- a character that changes how a line is shown: one that controls, reverses, divides or joins others, or isn't seen
+-- (in Unicode: Cc, Bidi_Control, Default_Ignorable_Code_Point, U+2028 and U+2029); and all from U+0080 to U+00BF
+abbrev pub changes_lines : ℕ → Bool
+changes_lines letter =
+    is_in_range 0x80 0xBF letter || letter == 0x34F || letter == 0x61C || is_in_range 0x115F 0x1160 letter
+    || is_in_range 0x17B4 0x17B5 letter || is_in_range 0x180B 0x180F letter || is_in_range 0x200B 0x200F letter
+    || is_in_range 0x2028 0x202E letter || is_in_range 0x2060 0x206F letter || letter == 0x3164
+    || is_in_range 0xFE00 0xFE0F letter || letter == 0xFEFF || letter == 0xFFA0 || is_in_range 0xFFF0 0xFFFB letter
+    || is_in_range 0x1BCA0 0x1BCA3 letter || is_in_range 0x1D173 0x1D17A letter || is_in_range 0xE0000 0xE0FFF letter
+
+-- UTF-8 with no such character
 abbrev pub IsShowable : List ℕ → Type 0
-IsShowable octets = (list_any (λ octet. octet == 0xC2) octets ≡ false) × IsUtf8 octets
+IsShowable octets = IsUtf8 octets × (list_any changes_lines (chars octets) ≡ false)
 
 -- printable ASCII except the backslash
 abbrev pub is_shown_plain : ℕ → Bool

@@ -1,20 +1,55 @@
 //! The lines of a trace.
 ghost use Rattle.std.specs.Prelude.{◌≡◌, [], ◌++◌, ◌↔◌, IfOk, OnOk, IsTrue, codes};
-ghost use Rattle.system_calls.specs.Line.{IsTraceLine, IsShowable, HasTraceLine, shown_octet};
+ghost use Rattle.system_calls.specs.Line.{IsTraceLine, IsShowable, HasTraceLine, changes_lines, shown_octet};
+ghost use Rattle.std.specs.{List.list_any, Str.chars};
 
 use std::alloc::{AllocError, Global};
 use std::io::{self, Write};
 use std::str;
 
-/// Whether octets above ASCII are shown as they are: if all together are UTF-8, and hold no character
-/// from U+0080 to U+00BF, since some of these are control characters.
+/// Whether a character changes how a line is shown: it controls, reverses, divides or joins others, or isn't seen.
+/// All from U+0080 to U+00BF count, of which some are control characters.
+fn changes_lines(letter: char) -> bool
+    ensures { result ≡ changes_lines letter }
+{
+    matches!(
+        letter,
+        '\u{80}'..='\u{bf}'
+            | '\u{34f}'
+            | '\u{61c}'
+            | '\u{115f}'..='\u{1160}'
+            | '\u{17b4}'..='\u{17b5}'
+            | '\u{180b}'..='\u{180f}'
+            | '\u{200b}'..='\u{200f}'
+            | '\u{2028}'..='\u{202e}'
+            | '\u{2060}'..='\u{206f}'
+            | '\u{3164}'
+            | '\u{fe00}'..='\u{fe0f}'
+            | '\u{feff}'
+            | '\u{ffa0}'
+            | '\u{fff0}'..='\u{fffb}'
+            | '\u{1bca0}'..='\u{1bca3}'
+            | '\u{1d173}'..='\u{1d17a}'
+            | '\u{e0000}'..='\u{e0fff}'
+    )
+}
+
+/// Whether a text has such a character.
+fn has_odd_one(text: &str) -> bool
+    ensures { result ≡ list_any changes_lines (chars text.now) }
+{
+    text.chars().any(|letter| changes_lines(letter))
+}
+
+/// Whether octets above ASCII are shown as they are: if all together are UTF-8, and hold no character that changes
+/// how a line is shown.
 fn is_showable(octets: &[u8]) -> bool
     ensures { IsTrue result ↔ IsShowable octets.now }
 {
-    if octets.contains(&0xC2) {
-        return false;
+    match str::from_utf8(octets) {
+        Ok(text) => !has_odd_one(text),
+        Err(_) => false,
     }
-    str::from_utf8(octets).is_ok()
 }
 
 /// Appends what a line shows of an octet: the octet, or `\x` and two digits.
