@@ -53,6 +53,8 @@ EXCUSES = {
     "Receives": "the other end has closed the link",
     "doubted": "a flush of a file was refused before, after which none makes it durable",
     "is_there": "a folder isn't there",
+    "FlushesNames": "the file system flushes no folders, which ends the premise",
+    "FlushesNamesIn": "the file system flushes no folders, which ends the premise",
     "Makes": "the place where files are made isn't there",
     "WereTaken": "mail readers took files away",
     "Moved": "others moved, marked or took away files, or put what can't be opened beside them",

@@ -123,7 +123,7 @@ pub not_replaced : (old new : Directory) (name bytes : List ℕ) (file : MadeFil
 not_replaced old new name bytes file fault x filled (inl same) = inl (ap (λ (d : Directory). disk_at d name) same)
 not_replaced old new name bytes file fault x filled (inr put) = inr (inl (put_at old new name bytes file filled put))
 
-pub replaced : (old mid new : Directory) (name bytes : List ℕ) (file : MadeFile) (r : Result (Unit {0}) StoreFault)
+pub replaced : (old mid new : Directory) (name bytes : List ℕ) (file : MadeFile) (r : Result Bool StoreFault)
     → file ≡ record { content = bytes; is_flushed = true } → mid ≡ put_in old file name → FlushesNames mid r new
     → ReplacesDisk (disk_at old name) bytes r (disk_at new name)
 replaced old mid new name bytes file r filled put flush = by r flush
@@ -134,8 +134,8 @@ replaced old mid new name bytes file r filled put flush = by r flush
     named : new ≡ names_flushed mid → disk_at new name ≡ all_durable (Some bytes)
     named e = rw e (ap (λ (d : Disk). record d { older = [] }) is_put)
 
-    by : (r : Result (Unit {0}) StoreFault) → FlushesNames mid r new → ReplacesDisk (disk_at old name) bytes r (disk_at new name)
-    by (Ok done) e = named e
+    by : (r : Result Bool StoreFault) → FlushesNames mid r new → ReplacesDisk (disk_at old name) bytes r (disk_at new name)
+    by (Ok done) (yes, e) = named e
     by (Err fault) (inl same) = inr (inl (ap (λ (d : Directory). disk_at d name) same ∙ is_put))
     by (Err fault) (inr e) = inr (inr (named e))
 
@@ -157,7 +157,7 @@ both_refused old new name fault (inl e) = inl (ap (λ (d : Directory). disk_at d
 both_refused old new name fault (inr (b, c, at, inl is, e)) = inr (inl (disk_became flushed old new name b c at is e))
 both_refused old new name fault (inr (b, c, at, inr is, e)) = inr (inr (inl (disk_became doubted old new name b c at is e)))
 
-pub both_flushed : (old mid new : Directory) (name : List ℕ) (r : Result (Unit {0}) StoreFault)
+pub both_flushed : (old mid new : Directory) (name : List ℕ) (r : Result Bool StoreFault)
     → FlushesFile {T = Unit {0}} old name (Ok tt) mid → FlushesNames mid r new → FlushesBoth (disk_at old name) r (disk_at new name)
 both_flushed old mid new name r (b, c, at, is, e) names = by r names
   where
@@ -168,8 +168,8 @@ both_flushed old mid new name r (b, c, at, is, e) names = by r names
         → disk_at d name ≡ record { now = option_map flushed (find name old.entries); older = [] }
     all_is d same = rw same (ap (λ (disk : Disk). record disk { older = [] }) file_is)
 
-    by : (r : Result (Unit {0}) StoreFault) → FlushesNames mid r new → FlushesBoth (disk_at old name) r (disk_at new name)
-    by (Ok done) same = all_is new same
+    by : (r : Result Bool StoreFault) → FlushesNames mid r new → FlushesBoth (disk_at old name) r (disk_at new name)
+    by (Ok done) (yes, same) = all_is new same
     by (Err fault) (inl same) = inr (inl (ap (λ (d : Directory). disk_at d name) same ∙ file_is))
     by (Err fault) (inr same) = inr (inr (inr (all_is new same)))
 

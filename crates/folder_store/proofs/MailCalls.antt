@@ -102,9 +102,9 @@ learns_same a = leads_learns a a (leads_same a)
 named_leads : (folder : Folder) (a m : Directories) → Moved a m → Leads a (names_flushed_in folder m)
 named_leads folder = mapped_leads (named_by folder) (flush_keeps folder)
 
-pub flushes_leads : {T : Type 0} (folder : Folder) (a b : Directories) (r : Result T StoreFault)
+pub flushes_leads : (folder : Folder) (a b : Directories) (r : Result Bool StoreFault)
     → Then (FlushesNamesIn folder r) a b → Leads a b
-flushes_leads folder a b (Ok done) (m, v, e) = rw e (named_leads folder a m v)
+flushes_leads folder a b (Ok done) (m, v, (yes, e)) = rw e (named_leads folder a m v)
 flushes_leads folder a b (Err fault) (m, v, inl lacks) = moved_same a m b v lacks.0
 flushes_leads folder a b (Err fault) (m, v, inr (refused, e)) = rw e (named_leads folder a m v)
 
@@ -122,18 +122,18 @@ leads_after a b c first next = learns_on a b c first (leads_learns b c next)
 -- ---- no name was told
 
 gone_since : (m b : Directories) (folder : Folder) (fault : StoreFault)
-    → FlushesNamesIn {T = Unit {0}} folder (Err fault) m b → fault ≡ Missing → is_there b.there folder ≡ false
+    → FlushesNamesIn folder (Err fault) m b → fault ≡ Missing → is_there b.there folder ≡ false
 gone_since m b folder fault (inl lacks) missing = rw lacks.0 (lacks.1 missing)
 gone_since m b folder fault (inr (refused, e)) missing = absurd cc
 
 pub one_unflushed : (a b c : Directories) (folder : Folder) (fault : StoreFault) → Learns a b
-    → Then (FlushesNamesIn {T = Unit {0}} folder (Err fault)) b c → TellsOne {A = Global} {B = Global} a folder (Err fault) c
+    → Then (FlushesNamesIn folder (Err fault)) b c → TellsOne {A = Global} {B = Global} a folder (Err fault) c
 one_unflushed a b c folder fault led t =
-    (leads_after a b c led (flushes_leads {T = Unit {0}} folder b c (Err fault) t), tt, gone_since t.0 c folder fault t.2)
+    (leads_after a b c led (flushes_leads folder b c (Err fault) t), tt, gone_since t.0 c folder fault t.2)
 
 pub unflushed : {T P Q R : Type 0} (Is : T → Type 0) (a b c : Directories) (folder : Folder) (fault : StoreFault)
     (r : Result T StoreFault) → IsErrAnd r (λ e. e ≡ fault)
-    → (Q → P × Learns a b) → (R → Q × Then (FlushesNamesIn {T = Unit {0}} folder (Err fault)) b c) → R
+    → (Q → P × Learns a b) → (R → Q × Then (FlushesNamesIn folder (Err fault)) b c) → R
     → P × (Learns a c × IfOk r Is × IfMissing r (LacksOne c))
 unflushed Is a b c folder fault r is before call s =
     let t = call s in
@@ -220,9 +220,9 @@ names_kept a b = each_by KeepsFile (λ a b. names_of (files_at b) ≡ names_of (
     (λ s t ss ts k same. rw (k.title, same) refl) a b
 
 -- a flush of names tells nothing of what can't be opened
-flush_odd : {T : Type 0} (folder : Folder) (done : T) (a b : Directories) → Then (FlushesNamesIn folder (Ok done)) a b
+flush_odd : (folder : Folder) (done : Bool) (a b : Directories) → Then (FlushesNamesIn folder (Ok done)) a b
     → (b.odd_new ≡ a.odd_new) × (b.odd_cur ≡ a.odd_cur) × (b.dirs_cur ≡ a.dirs_cur)
-flush_odd folder done a b (m, v, e) = rw e (v.odd_new, v.odd_cur, v.dirs_cur)
+flush_odd folder done a b (m, v, (yes, e)) = rw e (v.odd_new, v.odd_cur, v.dirs_cur)
 
 -- those that were seen are sought
 all_sought : (seeks : List ℕ → Bool) (files closed odd : List (List ℕ))
@@ -231,8 +231,8 @@ all_sought seeks files closed odd is = rw is (recursion_from_All _ _ (All-filter
     (λ name. is_sought seeks name ≡ true) (filter (is_sought seeks) closed) (filter_passes (is_sought seeks) closed)))
 
 -- and then the names of both folders were flushed, and it was told which are those of files
-module _ {A B T : Type 0} (asked : Asked) (o a b c d : Directories) (in_new in_cur : Vec (String A) B)
-    (done done' : T) (listed : ListedBoth (Items asked) (in_new, in_cur) a) (new : Then (FlushesNamesIn New (Ok done)) a b)
+module _ {A B : Type 0} (asked : Asked) (o a b c d : Directories) (in_new in_cur : Vec (String A) B)
+    (done done' : Bool) (listed : ListedBoth (Items asked) (in_new, in_cur) a) (new : Then (FlushesNamesIn New (Ok done)) a b)
     (cur : Then (FlushesNamesIn Cur (Ok done')) b c) (before : Learns o c) where
   told : (found : FoundNames) → Then (TellsFiles (map string_bytes in_new.items) (map string_bytes in_cur.items) (Ok found)) c d
       → ToldBoth (asks asked) found.files.items found.odd.items d
@@ -259,7 +259,7 @@ module _ {A B T : Type 0} (asked : Asked) (o a b c d : Directories) (in_new in_c
           rw same both.1,
           sym (map-map base string_bytes found.files.items) ∙ ap (map base) (rw (odd_new, odd_cur, dirs_cur) at are) ∙ both.2,
         );
-        named = rw (files, cur.2) (both_named new.0.entries cur.0.entries (rw new.2 at cur.1.moves));
+        named = rw (files, cur.2.1) (both_named new.0.entries cur.0.entries (rw new.2.1 at cur.1.moves));
         odd_are = subst (λ (there : List (List ℕ)). IsPermutation there (map string_bytes found.odd.items)) (sym odd)
             (subst (IsPermutation (odd_in_both l)) (sym (rw (odd_new, odd_cur) at odd_are))
             (IsPermutation-append _ _ _ _ listed.1.3.1 listed.2.3.1));
@@ -324,11 +324,11 @@ theirs {A} names files each = λ k d inside. each (base (string_bytes (get_or na
   get_or-map (λ (name : String A). base (string_bytes name)) names k d (base (string_bytes (get_or names k d))) inside,
 )
 
-pub told_one : {A B T : Type 0} (folder : Folder) (b0 b1 b2 : Directories) (names : Vec (String A) B) (done : T)
+pub told_one : {A B : Type 0} (folder : Folder) (b0 b1 b2 : Directories) (names : Vec (String A) B) (done : Bool)
     → Then (ListsIn folder All (Ok names)) b0 b1 → Then (FlushesNamesIn folder (Ok done)) b1 b2 → TellsOne b0 folder (Ok names) b2
-told_one {A} folder b0 b1 b2 names done (m1, v1, (there, (order, same, are), e1, shows)) (m2, v2, e2) = (
+told_one {A} folder b0 b1 b2 names done (m1, v1, (there, (order, same, are), e1, shows)) (m2, v2, (yes, e2)) = (
   leads_after b0 b1 b2 (lists_learns folder All b0 b1 (Ok names) (m1, v1, (there, (order, same, are), e1, shows)))
-      (flushes_leads folder b1 b2 (Ok done) (m2, v2, e2)),
+      (flushes_leads folder b1 b2 (Ok done) (m2, v2, (yes, e2))),
   (
     rw (e2, v2.there, ap (λ (d : Directories). d.there) e1, (listed_is folder b1 m1).1) there,
     theirs names.items (files_at b2.entries) (λ name c. some_named b2.entries name (stay name c)),
@@ -498,9 +498,9 @@ module _ (b0 b1 : Directories) (content name : List ℕ) (file : MadeFile)
             ∙ ap (λ (x : File). risen ++ x ∷ []) is;
       })
 
-  pub put_all : (b2 : Directories) (r : Result (Unit {0}) StoreFault) → Then (FlushesNamesIn New r) b1 b2 → PutsDurably b0 content name r b2
+  pub put_all : (b2 : Directories) (r : Result Bool StoreFault) → Then (FlushesNamesIn New r) b1 b2 → PutsDurably b0 content name r b2
   unfolding put_unnamed
-  put_all b2 (Ok done) (m, v, e) = put_named m b2 v e
+  put_all b2 (Ok done) (m, v, (yes, e)) = put_named m b2 v e
   put_all b2 (Err fault) (m, v, inl lacks) =
       let same = same_rests_at b1 m b2 v lacks.0 in
       let stands = put_unnamed.1 in

@@ -143,9 +143,10 @@ abbrev pub FlushesFile : {T : Type 0} → Directory → List ℕ → Result T St
 FlushesFile old name r new = AltersInPart (λ b c. c ≡ flushed b)
     (λ b c. (c ≡ flushed b) ⊎ (c ≡ doubted b)) old name r new
 
--- `flush_names`: the names are durable; a refused call did it, or nothing
-abbrev pub FlushesNames : {T : Type 0} → Directory → Result T StoreFault → Directory → Type 0
-FlushesNames old (Ok done) new = new ≡ names_flushed old
+-- `flush_names`: the names are durable; a refused call did it, or nothing. An answer that the file system flushes no
+-- folders ends the premise
+abbrev pub FlushesNames : Directory → Result Bool StoreFault → Directory → Type 0
+FlushesNames old (Ok flushes) new = (flushes ≡ true) × (new ≡ names_flushed old)
 FlushesNames old (Err fault) new = (new ≡ old) ⊎ (new ≡ names_flushed old)
 
 -- a folder of which nothing is known

@@ -149,9 +149,10 @@ named_by Cur s = record s { is_named = s.is_named || touches_cur s; left_cur = f
 abbrev pub names_flushed_in : Folder → Directories → Directories
 names_flushed_in folder d = record d { entries = map (named_by folder) d.entries }
 
--- `flush_names`: the names of a folder are durable; a refused call did it, or nothing
-abbrev pub FlushesNamesIn : {T : Type 0} → Folder → Result T StoreFault → Directories → Directories → Type 0
-FlushesNamesIn folder (Ok done) old new = new ≡ names_flushed_in folder old
+-- `flush_names`: the names of a folder are durable; a refused call did it, or nothing. An answer that its file system
+-- flushes no folders ends the premise
+abbrev pub FlushesNamesIn : Folder → Result Bool StoreFault → Directories → Directories → Type 0
+FlushesNamesIn folder (Ok flushes) old new = (flushes ≡ true) × (new ≡ names_flushed_in folder old)
 FlushesNamesIn folder (Err fault) old new = Lacks old folder fault new
     ⊎ ((fault ≡ Refused) × (new ≡ names_flushed_in folder old))
 

@@ -83,12 +83,13 @@ fn write_flushed<N: NewFile>(file: &mut N, bytes: &[u8]) -> Result<(), StoreFaul
     file.flush()
 }
 
-/// Makes a file of these bytes, flushes it, puts it under a name, and flushes the names.
+/// Makes a file of these bytes, flushes it, puts it under a name, and flushes the names. False if the file system
+/// flushes no folders.
 pub fn replace_flushed<F: FileFolder>(
     folder: &mut F,
     name: &str,
     bytes: &[u8],
-) -> Result<(), StoreFault>
+) -> Result<bool, StoreFault>
     ensures { F.sound folder.new → F.sound folder.old
         × ReplacesDisk (disk_at (F.directory folder.old) name.now) bytes.now result
         (disk_at (F.directory folder.new) name.now) }
@@ -102,8 +103,8 @@ pub fn replace_flushed<F: FileFolder>(
     folder.flush_names()
 }
 
-/// Flushes a file and the names.
-pub fn flush_both<F: FileFolder>(folder: &mut F, name: &str) -> Result<(), StoreFault>
+/// Flushes a file and the names. False if the file system flushes no folders.
+pub fn flush_both<F: FileFolder>(folder: &mut F, name: &str) -> Result<bool, StoreFault>
     ensures { F.sound folder.new → F.sound folder.old
         × FlushesBoth (disk_at (F.directory folder.old) name.now) result (disk_at (F.directory folder.new) name.now) }
 {

@@ -82,12 +82,12 @@ pub fn told_names_of<F: MailFolders>(
 }
 
 /// Flushes a file that was made, puts it into `new` under a name, and flushes the names of `new`. Refused
-/// if something in `new` has the name.
+/// if something in `new` has the name. False if the file system flushes no folders.
 pub fn put_durably<F: MailFolders>(
     folders: &mut F,
     file: F::File,
     name: &str,
-) -> Result<(), StoreFault>
+) -> Result<bool, StoreFault>
     ensures { F.sound folders.new → F.sound folders.old × F.File.sound file
         × PutsDurably (F.directories folders.old) (F.File.made file).content name.now result
         (F.directories folders.new) }

@@ -278,7 +278,7 @@ impl<'a, F: FileFolder + Drop> FlatFile for HostFile<'a, F> {
     fn replace(&mut self, bytes: &[u8]) -> Result<(), StoreFault> {
         admit(&self.failures)?;
         match replace_flushed(&mut self.folder, self.name, bytes) {
-            Ok(()) => {
+            Ok(_) => {
                 self.is_flushed = true;
                 Ok(())
             }

@@ -32,8 +32,8 @@ pub trait FolderState {
     // What calls see of the folder, and what is durable.
     ghost directory: { Self → Directory };
 
-    // The premise: so far the file system did what the folder's calls promise. If it holds after a call, it
-    // held before.
+    // The premise: so far the file system did what the folder's calls promise, and flushed it when it was asked to.
+    // If it holds after a call, it held before.
     ghost sound: { Self → Type 0 };
 }
 
@@ -109,8 +109,9 @@ pub trait FileFolder: FolderState {
         ensures { Self.sound self.new → Self.sound self.old
             × FlushesFile (Self.directory self.old) name.now result (Self.directory self.new) };
 
-    /// Flushes the names.
-    fn flush_names(&mut self) -> Result<(), StoreFault>
+    /// Flushes the names. False if the file system flushes no folders: then no name is known to be durable, and the
+    /// premise holds no more.
+    fn flush_names(&mut self) -> Result<bool, StoreFault>
         ensures { Self.sound self.new → Self.sound self.old
             × FlushesNames (Self.directory self.old) result (Self.directory self.new) };
 }

@@ -202,11 +202,13 @@ impl<'a, F: OpenFile + Drop> Handles<'a, F> {
         Ok(true)
     }
 
-    /// Flushes the names of the folder, which stays open unless that is refused.
-    pub fn sync_names(&mut self, names: Names<'a, F>) -> Result<(), Denial> {
-        self.is_unflushed |= !flush_folder(&names.folder)?;
+    /// Flushes the names of the folder, which stays open unless that is refused. False if its file system flushes no
+    /// folders.
+    pub fn sync_names(&mut self, names: Names<'a, F>) -> Result<bool, Denial> {
+        let is_flushed = flush_folder(&names.folder)?;
+        self.is_unflushed |= !is_flushed;
         self.names = Some(names);
-        Ok(())
+        Ok(is_flushed)
     }
 }
 

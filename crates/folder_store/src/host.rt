@@ -368,7 +368,7 @@ impl<'a, R: Files + AllocGlobal> HostFolder<'a, R> {
 
     // The folder is opened once, and again after a fault, and if its path leads to another one by now:
     // files are put there by their paths.
-    pub(crate) fn sync_names(&mut self) -> Result<(), Denial> {
+    pub(crate) fn sync_names(&mut self) -> Result<bool, Denial> {
         let path = self.paths.folder_path()?;
         if let Some(names) = self.handles.take_names() {
             if names.is_of(&self.system.stat(path.as_str())?) {
@@ -490,7 +490,7 @@ impl<'a, R: Files + AllocGlobal> FileFolder for HostFolder<'a, R> {
         answer_of(self.system.refusals, self.sync(name))
     }
 
-    fn flush_names(&mut self) -> Result<(), StoreFault> {
+    fn flush_names(&mut self) -> Result<bool, StoreFault> {
         answer_of(self.system.refusals, self.sync_names())
     }
 }

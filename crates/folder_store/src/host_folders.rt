@@ -356,7 +356,7 @@ impl<'a, R: Files + Clock + AllocGlobal + Clone + Drop> MailFolders for HostFold
         self.new_folder.host.discard(file)
     }
 
-    fn flush_names(&mut self, folder: Folder) -> Result<(), StoreFault> {
+    fn flush_names(&mut self, folder: Folder) -> Result<bool, StoreFault> {
         answer_of(
             self.system.refusals,
             self.folder_mut(folder).host.sync_names(),

@@ -41,8 +41,8 @@ pub trait MailFolders {
     // What calls see of the folders, and what of it is durable.
     ghost directories: { Self → Directories };
 
-    // The premise: so far the file system did what this trait says, and others did nothing but move,
-    // mark and take away files. If it holds after a call, it held before.
+    // The premise: so far the file system did what this trait says, flushed folders when it was asked to, and others
+    // did nothing but move, mark and take away files. If it holds after a call, it held before.
     ghost sound: { Self → Type 0 };
 
     /// Whether a folder is there: Missing if it isn't.
@@ -101,8 +101,9 @@ pub trait MailFolders {
         ensures { sound self.new → sound self.old × Self.File.sound file
             × Moved (directories self.old) (directories self.new) };
 
-    /// Flushes the names of a folder. Missing if it isn't there.
-    fn flush_names(&mut self, folder: Folder) -> Result<(), StoreFault>
+    /// Flushes the names of a folder. Missing if it isn't there. False if its file system flushes no folders: then no
+    /// name is known to be durable, and the premise holds no more.
+    fn flush_names(&mut self, folder: Folder) -> Result<bool, StoreFault>
         ensures flushes { sound self.new → sound self.old
             × Then (FlushesNamesIn folder result) (directories self.old) (directories self.new) }
         ensures fault { IfErr result IsDeviceFault };

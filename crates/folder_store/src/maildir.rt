@@ -193,7 +193,7 @@ impl<N: NewFile + Drop, F: MailFolders<File = N> + Drop> MaildirDisk for FolderM
             return Err(refuse(&mut self.failures));
         }
         match put_durably(&mut self.folders, file, name) {
-            Ok(()) => Ok(()),
+            Ok(_) => Ok(()),
             Err(_) => Err(refuse(&mut self.failures)),
         }
     }

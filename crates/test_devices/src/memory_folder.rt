@@ -429,11 +429,11 @@ impl FileFolder for MemoryFolder {
         }
     }
 
-    fn flush_names(&mut self) -> Result<(), StoreFault>
+    fn flush_names(&mut self) -> Result<bool, StoreFault>
         ensures flushes { Unit {0} → Unit {0} × FlushesNames self.old result self.new }
-        ensures answers { result ≡ Ok tt }
+        ensures answers { result ≡ Ok true }
     {
         self.older.clear();
-        Ok(())
+        Ok(true)
     }
 }

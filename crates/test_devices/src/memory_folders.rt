@@ -682,12 +682,12 @@ impl MailFolders for MemoryFolders {
         self.let_reader_move();
     }
 
-    fn flush_names(&mut self, folder: Folder) -> Result<(), StoreFault> {
+    fn flush_names(&mut self, folder: Folder) -> Result<bool, StoreFault> {
         self.let_reader_move();
         match named_files(self.alloc, &self.files, folder) {
             Ok(files) => {
                 self.files = files;
-                Ok(())
+                Ok(true)
             }
             Err(_) => Err(StoreFault::Refused),
         }
