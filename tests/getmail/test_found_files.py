@@ -44,11 +44,15 @@ class FoundFiles(unittest.TestCase):
         self.assertEqual(self.account.held(), sorted(LETTERS * copies))
         return [words for words, _ in self.noted.rows()]
 
-    def flushed_first(self, rows):
-        """The files that are flushed before the record's file is made."""
+    def before_the_record(self, rows):
+        """The rows before the record's file is made."""
         made = next(place for place, words in enumerate(rows)
                     if words[0] == "make" and str(self.account.record) in words[2])
-        return [int(words[1]) for words in rows[:made] if words[0] == "flush"]
+        return rows[:made]
+
+    def flushed_first(self, rows):
+        """The files that are flushed before the record's file is made."""
+        return [int(words[1]) for words in self.before_the_record(rows) if words[0] == "flush"]
 
     def check_flushed_first(self, rows, inodes):
         self.assertEqual(set(self.flushed_first(rows)), inodes)
@@ -72,6 +76,19 @@ class FoundFiles(unittest.TestCase):
     def test_both_files_of_a_message(self):
         inodes = self.put(*BOTH)
         self.check_flushed_first(self.changes_of_run(copies=2), inodes)
+
+    def test_what_links_lead_to(self):
+        """The folder that holds it is flushed too: a loss of power may leave a link to nothing."""
+        self.put()
+        elsewhere = self.account.home / "elsewhere"
+        elsewhere.mkdir()
+        for uid, text in LETTERS:
+            name = self.account.name(uid, text)
+            (elsewhere / name).write_bytes(text)
+            (self.account.maildir / "cur" / f"{name}:2,S").symlink_to(elsewhere / name)
+        rows = self.changes_of_run()
+        self.check_flushed_first(rows, {path.stat().st_ino for path in elsewhere.iterdir()})
+        self.assertIn(["flush-folder", str(elsewhere)], [words[:2] for words in self.before_the_record(rows)])
 
     def check_each(self, more_than, places, changes_at, copies=1):
         """The reader works at one moment of a run, each of them in turn. There are more moments than this number."""

@@ -1,7 +1,9 @@
+pub mod CutOff
 pub mod ExactListing
 pub mod FileFolder
 pub mod FlushPass
 pub mod HostFile
+pub mod HostPaths
 pub mod MailCalls
 pub mod MailFolders
 pub mod MailPower

@@ -1,7 +1,7 @@
 //! What is cut off from a file, kept in a file of its own.
 
-ghost use Rattle.std.specs.Prelude.{◌≡◌, ◌≤◌, length, IsTrue};
-ghost use Rattle.folder_store.specs.PowerLoss.{disk_at};
+ghost use Rattle.std.specs.Prelude.{◌≡◌, ◌≤◌, ◌↔◌, length, IsTrue, Ok, OnOk, false, not, true};
+ghost use Rattle.folder_store.specs.{CutOff.{BeginsWith, has_others}, PowerLoss.disk_at};
 ghost use Rattle.mail_store.specs.DiskCalls.{AppendsDisk, CutsDisk};
 
 use crate::durable_file::{Appending, append_in, cut_flushed, replace_flushed};
@@ -13,13 +13,25 @@ const PIECE: usize = 4_096;
 
 /// Whether an entry begins with what is kept; zeros, as a loss of power leaves them, don't count.
 fn begins_with(entry: &[u8], kept: &[u8]) -> bool
-    ensures { IsTrue result → length kept.now ≤ length entry.now }
+    ensures within { IsTrue result → length kept.now ≤ length entry.now }
+    ensures begins { IsTrue result → BeginsWith entry.now kept.now }
 {
-    kept.len() <= entry.len()
-        && kept
-            .iter()
-            .zip(entry)
-            .all(|(one, other)| *one == 0 || one == other)
+    if kept.len() > entry.len() {
+        return false;
+    }
+    for place in 0..kept.len() {
+        if kept[place] != 0 && kept[place] != entry[place] {
+            return false;
+        }
+    }
+    true
+}
+
+/// Whether it is known that an entry has all that is kept. It isn't if they couldn't be compared.
+fn is_known(answer: Result<bool, StoreFault>) -> bool
+    ensures { IsTrue result ↔ answer ≡ Ok true }
+{
+    matches!(answer, Ok(true))
 }
 
 /// A file in a folder of a file system, in which is kept what is cut off from another file. There
@@ -42,7 +54,9 @@ pub struct CutOff<'a, F> {
 
 impl<'a, F> CutOff<'a, F> {
     /// The file of a name in a folder.
-    pub fn over(folder: F, name: &'a str) -> CutOff<'a, F> {
+    pub fn over(folder: F, name: &'a str) -> CutOff<'a, F>
+        ensures { (result.folder ≡ folder) × (result.name.now ≡ name.now) }
+    {
         CutOff {
             folder,
             name,
@@ -54,7 +68,9 @@ impl<'a, F> CutOff<'a, F> {
     }
 
     /// Whether this run kept something that isn't known to be a part of what was appended since.
-    pub fn has_others(&self) -> bool {
+    pub fn has_others(&self) -> bool
+        ensures { result ≡ has_others self.now }
+    {
         self.has_kept && !self.are_ours
     }
 
@@ -64,7 +80,9 @@ impl<'a, F> CutOff<'a, F> {
     }
 
     /// Whether bytes that were appended since have all that this run kept.
-    pub fn are_ours(&self) -> bool {
+    pub fn are_ours(&self) -> bool
+        ensures { result ≡ self.now.are_ours }
+    {
         self.are_ours
     }
 }
@@ -112,7 +130,8 @@ impl<'a, F: FileFolder + Drop> CutOff<'a, F> {
 
     // Keeps the bytes of another file from `start` on, and flushes them. The other file is only read.
     fn keep(&mut self, other: &mut F, name: &str, start: u64) -> Result<(), StoreFault>
-        ensures { F.sound other.new → F.sound other.old × (F.directory other.new ≡ F.directory other.old) }
+        ensures keeps { OnOk result (has_others self.new ≡ true) }
+        ensures reads { F.sound other.new → F.sound other.old × (F.directory other.new ≡ F.directory other.old) }
     {
         let edges = other.edges(name)?;
         let mut at = start.saturating_add(self.octets_there(other, name, start, edges.size)?);
@@ -120,7 +139,7 @@ impl<'a, F: FileFolder + Drop> CutOff<'a, F> {
         while at < edges.size {
             let count = other.read_at(name, at, &mut buf)?;
             if count == 0 {
-                return Err(StoreFault::Refused);
+                break;
             }
             append_in(
                 &mut self.folder,
@@ -152,10 +171,13 @@ impl<'a, F: FileFolder + Drop> CutOff<'a, F> {
     }
 
     // Notes that bytes were appended to the other file, or refused.
-    fn note(&mut self, bytes: &[u8], is_done: bool) {
+    fn note(&mut self, bytes: &[u8], is_done: bool)
+        ensures refused { self.new.is_refused ≡ not is_done }
+        ensures stays { is_done ≡ false → has_others self.new ≡ has_others self.old }
+    {
         self.is_refused = !is_done;
         if is_done && self.may_be_there {
-            self.are_ours = self.is_in(bytes).unwrap_or(false);
+            self.are_ours = is_known(self.is_in(bytes));
             self.may_be_there = self.has_kept && !self.are_ours;
         }
     }

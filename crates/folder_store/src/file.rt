@@ -1,10 +1,12 @@
 //! A file in a folder of a file system.
 
-ghost use Rattle.std.{specs.Prelude.{◌≡◌, ◌<◌}, proofs.Common.refl};
+ghost use Rattle.std.{specs.Prelude.{◌≡◌, ◌<◌, IfNone, IfSome, IsSomeAnd, false}, proofs.Common.refl};
 ghost use Rattle.mail_terms.specs.FailureCount.{greatest_count};
 ghost use Rattle.mail_store.specs.DiskCalls.{FlushesBoth};
 ghost use Rattle.folder_store.specs.{
+  CutOff.has_others,
   HostFile.{FlushHolds, stored_in, unknown_file},
+  HostPaths.IsFileAt,
   NewDevices.{LeftFilesStand, NewFilesKeepBytes},
   PowerLoss.disk_at,
 };
@@ -14,7 +16,7 @@ use crate::durable_file::{Appending, flush_both, replace_flushed};
 use crate::file_folder::{FileFolder, FolderState};
 use crate::host::HostFolder;
 use crate::process_mark::ProcessMark;
-use crate::system::name_in;
+use crate::system::parts_of;
 use crate::tally::tally;
 use mail_store::{Edges, FlatFile, StoreFault, admit, refuse};
 use mail_terms::FailureCount;
@@ -44,7 +46,10 @@ pub struct HostFile<'a, F: FolderState> {
 
 impl<'a, F: FolderState> HostFile<'a, F> {
     /// Whether this run kept what it cut off, and appended nothing since that begins with it.
-    pub fn keeps_others(&self) -> bool {
+    pub fn keeps_others(&self) -> bool
+        ensures some { IfSome self.now.cut_off (λ kept. result ≡ has_others kept) }
+        ensures none { IfNone self.now.cut_off (result ≡ false) }
+    {
         match &self.cut_off {
             Some(cut_off) => cut_off.has_others(),
             None => false,
@@ -57,6 +62,7 @@ impl<'a, F: FileFolder + Drop> HostFile<'a, F> {
     pub fn over(folder: F, name: &'a str, appending: Appending) -> HostFile<'a, F>
         ensures stored { ⟦<HostFile<'a, F> as FlatFile>⟧.stored result ≡ stored_in (F.directory folder) name.now 0 }
         ensures disk { ⟦<HostFile<'a, F> as FlatFile>⟧.disk result ≡ disk_at (F.directory folder) name.now }
+        ensures parts { (result.folder ≡ folder) × (result.name.now ≡ name.now) }
     {
         HostFile {
             folder,
@@ -129,10 +135,12 @@ impl<'a, R: Files + AllocGlobal> HostFile<'a, HostFolder<'a, R>> {
         path: &'a str,
         mark: ProcessMark,
     ) -> HostFile<'a, HostFolder<'a, R>>
-        ensures { ⟦<HostFile<'a, HostFolder<'a, R>> as FlatFile>⟧.stored result ≡ unknown_file }
+        ensures state { ⟦<HostFile<'a, HostFolder<'a, R>> as FlatFile>⟧.stored result ≡ unknown_file }
+        ensures place { IsFileAt result.folder.paths result.name.now path.now }
     {
-        let folder = HostFolder::around(system, path, mark, false);
-        HostFile::over(folder, name_in(path), Appending::AtOnce)
+        let (folder, name) = parts_of(path);
+        let folder = HostFolder::at(system, folder, mark, false);
+        HostFile::over(folder, name, Appending::AtOnce)
     }
 
     /// The file at a path, likewise. What is appended is flushed at each border of 512 octets of the
@@ -143,10 +151,12 @@ impl<'a, R: Files + AllocGlobal> HostFile<'a, HostFolder<'a, R>> {
         path: &'a str,
         mark: ProcessMark,
     ) -> HostFile<'a, HostFolder<'a, R>>
-        ensures { ⟦<HostFile<'a, HostFolder<'a, R>> as FlatFile>⟧.stored result ≡ unknown_file }
+        ensures state { ⟦<HostFile<'a, HostFolder<'a, R>> as FlatFile>⟧.stored result ≡ unknown_file }
+        ensures place { IsFileAt result.folder.paths result.name.now path.now }
     {
-        let folder = HostFolder::around(system, path, mark, true);
-        HostFile::over(folder, name_in(path), Appending::ByBlocks)
+        let (folder, name) = parts_of(path);
+        let folder = HostFolder::at(system, folder, mark, true);
+        HostFile::over(folder, name, Appending::ByBlocks)
     }
 
     /// The file at a path, as `at` has it. What is cut off is first kept in the file at another path,
@@ -157,11 +167,14 @@ impl<'a, R: Files + AllocGlobal> HostFile<'a, HostFolder<'a, R>> {
         cut_off: &'a str,
         mark: ProcessMark,
     ) -> HostFile<'a, HostFolder<'a, R>>
-        ensures { ⟦<HostFile<'a, HostFolder<'a, R>> as FlatFile>⟧.stored result ≡ unknown_file }
+        ensures state { ⟦<HostFile<'a, HostFolder<'a, R>> as FlatFile>⟧.stored result ≡ unknown_file }
+        ensures place { IsFileAt result.folder.paths result.name.now path.now }
+        ensures rests { IsSomeAnd result.cut_off (λ kept. IsFileAt kept.folder.paths kept.name.now cut_off.now) }
     {
-        let kept = HostFolder::around(system, cut_off, mark, false);
+        let (folder, name) = parts_of(cut_off);
+        let kept = CutOff::over(HostFolder::at(system, folder, mark, false), name);
         let mut file = HostFile::at(system, path, mark);
-        file.cut_off = Some(CutOff::over(kept, name_in(cut_off)));
+        file.cut_off = Some(kept);
         file
     }
 

@@ -1,5 +1,7 @@
 //! Whether a file is as this process left it.
 
+ghost use Rattle.std.specs.{Prelude.{◌≡◌, ◌≤◌, ◌↔◌, ◌+◌, ◌-◌, length, IsTrue, OnOk}, Fs.metadata_len};
+
 use crate::exact_listing::ChangeTime;
 use std::fs::Metadata;
 use std::io::{self, ErrorKind, Write};
@@ -16,7 +18,9 @@ pub struct FileState {
 
 impl FileState {
     /// The state of the file that the system reports this of.
-    pub fn of(file: &Metadata) -> FileState {
+    pub fn of(file: &Metadata) -> FileState
+        ensures { result.size ≡ metadata_len file.now }
+    {
         FileState {
             device: file.dev(),
             inode: file.ino(),
@@ -26,33 +30,47 @@ impl FileState {
     }
 
     /// Whether it is the same file, of `more` octets more than in the other state.
-    pub fn grew_by(self, old: FileState, more: u64) -> bool {
+    pub fn grew_by(self, old: FileState, more: u64) -> bool
+        ensures { IsTrue result
+            ↔ (self.device ≡ old.device) × (self.inode ≡ old.inode) × (self.size ≡ old.size + more) }
+    {
         self.device == old.device
             && self.inode == old.inode
-            && self.size == old.size.saturating_add(more)
+            && Some(self.size) == old.size.checked_add(more)
     }
 }
 
 /// Writes octets, and returns how many of them were taken, and what refused the others.
-pub fn write_counted<W: Write>(file: &mut W, bytes: &[u8]) -> (u64, io::Result<()>) {
+pub fn write_counted<W: Write>(file: &mut W, bytes: &[u8]) -> (u64, io::Result<()>)
+    ensures within { result.0 ≤ length bytes.now }
+    ensures whole { OnOk result.1 (result.0 ≡ length bytes.now) }
+{
     let mut rest = bytes;
-    let mut answer = Ok(());
     for _ in 0..u64::MAX {
         if rest.is_empty() {
-            break;
+            return (bytes.len() as u64, Ok(()));
         }
         match file.write(rest) {
             Ok(0) => {
-                answer = Err(io::Error::from(ErrorKind::WriteZero));
-                break;
+                return (
+                    taken(bytes, rest),
+                    Err(io::Error::from(ErrorKind::WriteZero)),
+                );
             }
             Ok(count) => rest = &rest[count..],
             Err(fault) if fault.kind() == ErrorKind::Interrupted => {}
-            Err(fault) => {
-                answer = Err(fault);
-                break;
-            }
+            Err(fault) => return (taken(bytes, rest), Err(fault)),
         }
     }
-    (bytes.len().saturating_sub(rest.len()) as u64, answer)
+    (
+        taken(bytes, rest),
+        Err(io::Error::from(ErrorKind::Interrupted)),
+    )
+}
+
+/// How many of these octets were taken, of which the rest wasn't.
+fn taken(bytes: &[u8], rest: &[u8]) -> u64
+    ensures { result ≡ length bytes.now - length rest.now }
+{
+    bytes.len().saturating_sub(rest.len()) as u64
 }

@@ -2,16 +2,20 @@
 
 ghost use Rattle.std.specs.Prelude.{◌≡◌, ◌≤◌, length, IfErr, IfOk, Ok};
 ghost use Rattle.mail_store.specs.Fault.{IsDeviceFault};
-ghost use Rattle.folder_store.specs.FileFolder.{empty_made, unknown_directory};
+ghost use Rattle.folder_store.specs.{
+  FileFolder.{empty_made, unknown_directory},
+  HostPaths.{AreIn, AreInMaildir},
+};
 
 use crate::exact_listing::{FolderNames, Wanted, list_names};
 use crate::file_folder::{FileFolder, FolderState, NewFile};
 use crate::handles::{Changed, Handles, Names, bytes_in, piece_in};
 use crate::host_paths::HostPaths;
 use crate::process_mark::ProcessMark;
-use crate::system::{folder_of, make_file, sweep};
+use crate::system::{flush_folder, make_file, parts_of, sweep};
 use mail_store::{Edges, StoreFault};
 use std::alloc::{AllocError, Global};
+use std::fs;
 use std::fs::{Metadata, OpenFile, OpenOptions};
 use std::io::{ErrorKind, Write};
 use std::rt::Files;
@@ -53,7 +57,8 @@ impl<'a, R: Files + AllocGlobal> HostFolder<'a, R> {
         folder: &'a str,
         mark: ProcessMark,
     ) -> HostFolder<'a, R>
-        ensures { ⟦<HostFolder<'a, R> as FolderState>⟧.directory result ≡ unknown_directory }
+        ensures state { ⟦<HostFolder<'a, R> as FolderState>⟧.directory result ≡ unknown_directory }
+        ensures place { AreInMaildir result.paths path.now folder.now }
     {
         HostFolder {
             system,
@@ -69,24 +74,25 @@ impl<'a, R: Files + AllocGlobal> HostFolder<'a, R> {
         }
     }
 
-    /// The folder that holds the file at a path, absolute or taken from the working folder. Files are
-    /// made in it too, with `.tmp` and the process's mark after their names. If `keeps_handle` is true,
-    /// a file that was changed stays open for its next change: for a file that nobody else replaces. Else
-    /// the file is watched: its edges aren't told, and it is neither appended to nor cut, once another
-    /// program has changed it since it was first looked at.
-    pub fn around(
+    /// The folder at a path, absolute or taken from the working folder. Files are made in it too, with
+    /// `.tmp` and the process's mark after their names. If `keeps_handle` is true, a file that was changed
+    /// stays open for its next change: for one that nobody else replaces. Else the one file that is used
+    /// there is watched: its edges aren't told, and it is neither appended to nor cut, once another program
+    /// has changed it since it was first looked at.
+    pub fn at(
         system: &'a System<'a, R>,
         path: &'a str,
         mark: ProcessMark,
         keeps_handle: bool,
     ) -> HostFolder<'a, R>
-        ensures { ⟦<HostFolder<'a, R> as FolderState>⟧.directory result ≡ unknown_directory }
+        ensures state { ⟦<HostFolder<'a, R> as FolderState>⟧.directory result ≡ unknown_directory }
+        ensures place { AreIn result.paths path.now }
     {
         HostFolder {
             system,
             paths: HostPaths {
                 alloc: system.alloc(),
-                base: folder_of(path),
+                base: path,
                 folder: "",
                 scratch: "",
                 suffix: ".tmp",
@@ -311,12 +317,26 @@ impl<'a, R: Files + AllocGlobal> HostFolder<'a, R> {
         match self.open_if_there(name) {
             Ok(Some(file)) => {
                 file.at(file.sync_all())?;
+                self.sync_target(name)?;
                 Ok(Some(true))
             }
             Ok(None) => Ok(Some(false)),
             Err(fault) if self.is_odd(name, &fault) => Ok(None),
             Err(fault) => Err(fault),
         }
+    }
+
+    // Flushes the folder that holds what a link leads to: else the name there may not be durable.
+    fn sync_target(&self, name: &str) -> Result<(), Denial> {
+        if !self.is_link(name) {
+            return Ok(());
+        }
+        let path = self.paths.path_of(name)?;
+        let path = path.as_str();
+        let target = fs::canonicalize(self.system.rt, path);
+        let target = self.system.asked("realpath", path, target)?.into_string();
+        flush_folder(&self.system.open(parts_of(target.as_str()).0)?)?;
+        Ok(())
     }
 
     // The path of what has a name and can't be opened, and why; None if it can be, or has gone.

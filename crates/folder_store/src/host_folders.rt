@@ -1,7 +1,7 @@
 //! The folders of a Maildir in the machine's file system.
 
-ghost use Rattle.std.specs.{Prelude.{◌≡◌, ◌<◌, ◌↔◌, IsTrue, Ok, Some, false, true}, Duration.as_nanos};
-ghost use Rattle.folder_store.specs.MailFolders.{unknown_directories};
+ghost use Rattle.std.specs.{Prelude.{◌≡◌, ◌<◌, ◌↔◌, IsTrue, Ok, Some, codes, false, true}, Duration.as_nanos};
+ghost use Rattle.folder_store.specs.{HostPaths.AreInMaildir, MailFolders.unknown_directories};
 
 use crate::exact_listing::{ChangeTime, Wanted};
 use crate::file_folder::FileFolder;
@@ -51,7 +51,9 @@ impl<'a, R: Files + AllocGlobal> ListedFolder<'a, R> {
         path: &'a str,
         folder: &'a str,
         mark: ProcessMark,
-    ) -> Self {
+    ) -> Self
+        ensures { AreInMaildir result.host.paths path.now folder.now }
+    {
         ListedFolder {
             host: HostFolder::of_maildir(system, path, folder, mark),
             change: None,
@@ -66,7 +68,9 @@ impl<'a, R: Files + Clock + AllocGlobal + Clone + Drop> HostFolders<'a, R> {
         path: &'a str,
         mark: ProcessMark,
     ) -> HostFolders<'a, R>
-        ensures { ⟦<HostFolders<'a, R> as MailFolders>⟧.directories result ≡ unknown_directories }
+        ensures state { ⟦<HostFolders<'a, R> as MailFolders>⟧.directories result ≡ unknown_directories }
+        ensures in_new { AreInMaildir result.new_folder.host.paths path.now (codes "new") }
+        ensures in_cur { AreInMaildir result.cur_folder.host.paths path.now (codes "cur") }
     {
         HostFolders::named(system, path, ("new", "cur"), mark)
     }
@@ -78,7 +82,9 @@ impl<'a, R: Files + Clock + AllocGlobal + Clone + Drop> HostFolders<'a, R> {
         names: (&'a str, &'a str),
         mark: ProcessMark,
     ) -> HostFolders<'a, R>
-        ensures { ⟦<HostFolders<'a, R> as MailFolders>⟧.directories result ≡ unknown_directories }
+        ensures state { ⟦<HostFolders<'a, R> as MailFolders>⟧.directories result ≡ unknown_directories }
+        ensures in_new { AreInMaildir result.new_folder.host.paths path.now names.entry.0.now }
+        ensures in_cur { AreInMaildir result.cur_folder.host.paths path.now names.entry.1.now }
     {
         HostFolders {
             system,

@@ -1,5 +1,8 @@
 //! The paths of a folder of the machine's file system.
 
+ghost use Rattle.std.specs.{Prelude.{◌≡◌, ◌++◌, IfOk, string_bytes}, Path.path_buf_bytes};
+ghost use Rattle.folder_store.specs.HostPaths.{path_of_file, path_of_folder, with_process_mark};
+
 use crate::process_mark::ProcessMark;
 use std::alloc::Global;
 use std::path::PathBuf;
@@ -22,7 +25,9 @@ pub struct HostPaths<'a> {
 
 impl<'a> HostPaths<'a> {
     // The path of a folder, made with room for so many octets more.
-    fn path_in(&self, folder: &str, more: usize) -> Result<PathBuf, Denial> {
+    fn path_in(&self, folder: &str, more: usize) -> Result<PathBuf, Denial>
+        ensures { IfOk result (λ path. path_buf_bytes path ≡ path_of_folder self.now.base.now folder.now) }
+    {
         let room = self
             .base
             .len()
@@ -37,29 +42,41 @@ impl<'a> HostPaths<'a> {
         Ok(path)
     }
 
-    fn file_path(&self, folder: &str, name: &str) -> Result<String, Denial> {
+    fn file_path(&self, folder: &str, name: &str) -> Result<String, Denial>
+        ensures { IfOk result (λ path. string_bytes path ≡ path_of_file self.now.base.now folder.now name.now) }
+    {
         let mut path = self.path_in(folder, name.len())?;
         path.push(name)?;
         Ok(path.into_string())
     }
 
     /// The path of the folder.
-    pub fn folder_path(&self) -> Result<String, Denial> {
+    pub fn folder_path(&self) -> Result<String, Denial>
+        ensures { IfOk result (λ path. string_bytes path ≡ path_of_folder self.now.base.now self.now.folder.now) }
+    {
         Ok(self.path_in(self.folder, 0)?.into_string())
     }
 
     /// The path of the folder in which files are made.
-    pub fn scratch_path(&self) -> Result<String, Denial> {
+    pub fn scratch_path(&self) -> Result<String, Denial>
+        ensures { IfOk result (λ path. string_bytes path ≡ path_of_folder self.now.base.now self.now.scratch.now) }
+    {
         Ok(self.path_in(self.scratch, 0)?.into_string())
     }
 
     /// The path of a file.
-    pub fn path_of(&self, name: &str) -> Result<String, Denial> {
+    pub fn path_of(&self, name: &str) -> Result<String, Denial>
+        ensures { IfOk result (λ path. string_bytes path
+            ≡ path_of_file self.now.base.now self.now.folder.now name.now) }
+    {
         self.file_path(self.folder, name)
     }
 
     /// The path of a file that is made to be put under a name.
-    pub fn made_path(&self, name: &str) -> Result<String, Denial> {
+    pub fn made_path(&self, name: &str) -> Result<String, Denial>
+        ensures { IfOk result (λ path. string_bytes path ≡ path_of_file self.now.base.now self.now.scratch.now name.now
+            ++ with_process_mark self.now.mark self.now.suffix.now) }
+    {
         let mark = self.mark.marked(self.alloc, self.suffix)?;
         let room = name.len().saturating_add(mark.len());
         let mut path = self.path_in(self.scratch, room)?;

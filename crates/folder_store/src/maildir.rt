@@ -1,8 +1,9 @@
 //! A Maildir in folders of a file system.
 
-ghost use Rattle.std.specs.Prelude.{◌≡◌, ◌<◌, ◌+◌, [], IfSome, map, option_map, string_bytes};
+ghost use Rattle.std.specs.Prelude.{◌≡◌, ◌<◌, ◌+◌, [], IfSome, codes, map, option_map, string_bytes};
 ghost use Rattle.mail_terms.specs.FailureCount.{greatest_count};
 ghost use Rattle.folder_store.specs.{
+  HostPaths.AreInMaildir,
   MailFolders.{draft_begun, maildir_in, unknown_maildir},
   NewDevices.{LeftMaildirsStay, LossesMayLeave, NewMaildirsKeepMail},
 };
@@ -44,7 +45,9 @@ pub type HostMaildir<'a, R> = FolderMaildir<HostFolders<'a, R>, HostNewFile<'a, 
 impl<N: NewFile + Drop, F: MailFolders<File = N> + Drop> FolderMaildir<F, N> {
     /// The Maildir of these folders.
     pub fn over(alloc: Global, folders: F) -> FolderMaildir<F, N>
-        ensures { ⟦<FolderMaildir<F, N> as MaildirDisk>⟧.maildir result ≡ maildir_in (F.directories folders) None [] 0 }
+        ensures state { ⟦<FolderMaildir<F, N> as MaildirDisk>⟧.maildir result
+            ≡ maildir_in (F.directories folders) None [] 0 }
+        ensures over { result.folders ≡ folders }
     {
         FolderMaildir {
             alloc,
@@ -74,7 +77,9 @@ impl<'a, R: Files + Clock + AllocGlobal + Clone + Drop> HostMaildir<'a, R> {
     /// The Maildir at a path, absolute or taken from the working folder. It must hold the folders
     /// `tmp`, `new` and `cur`; none of them is made.
     pub fn at(system: &'a System<'a, R>, path: &'a str, mark: ProcessMark) -> HostMaildir<'a, R>
-        ensures { ⟦<HostMaildir<'a, R> as MaildirDisk>⟧.maildir result ≡ unknown_maildir }
+        ensures state { ⟦<HostMaildir<'a, R> as MaildirDisk>⟧.maildir result ≡ unknown_maildir }
+        ensures in_new { AreInMaildir result.folders.new_folder.host.paths path.now (codes "new") }
+        ensures in_cur { AreInMaildir result.folders.cur_folder.host.paths path.now (codes "cur") }
     {
         FolderMaildir::over(system.alloc(), HostFolders::of_maildir(system, path, mark))
     }

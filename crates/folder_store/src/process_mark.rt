@@ -1,5 +1,8 @@
 //! The part of a file's name that no other process has at the time.
 
+ghost use Rattle.std.specs.Prelude.{◌≡◌, IfOk, IsTrue, length, string_bytes};
+ghost use Rattle.folder_store.specs.HostPaths.{EndsInMark, with_process_mark};
+
 use std::alloc::{AllocError, Global};
 use std::io;
 use std::process::{self, Process};
@@ -11,7 +14,7 @@ use std::random::RandomSource;
 #[derive(Clone, Copy)]
 pub struct ProcessMark {
     process: u32,
-    random: u64,
+    random: [u8; 8],
 }
 
 impl ProcessMark {
@@ -21,7 +24,7 @@ impl ProcessMark {
         random.fill_bytes(&mut octets)?;
         Ok(ProcessMark {
             process: process::id(process),
-            random: u64::from_be_bytes(octets),
+            random: octets,
         })
     }
 
@@ -29,27 +32,42 @@ impl ProcessMark {
     pub fn none() -> ProcessMark {
         ProcessMark {
             process: 0,
-            random: 0,
+            random: [0; 8],
         }
     }
 
     /// A name with the mark after it: 14 to 29 octets more.
-    pub fn marked(self, alloc: Global, name: &str) -> Result<String, AllocError> {
+    pub fn marked(self, alloc: Global, name: &str) -> Result<String, AllocError>
+        ensures { IfOk result (λ text. string_bytes text ≡ with_process_mark self name.now) }
+    {
         let ProcessMark { process, random } = self;
-        format!(in alloc; "{name}.P{process}R{random:016x}")
+        let digits = hex::encode(alloc, random.as_slice())?;
+        format!(in alloc; "{name}.P{process}R{digits}")
     }
 }
 
+/// Whether a text is the id of a process.
+fn is_id(text: &str) -> bool {
+    text.bytes().all(|octet| octet.is_ascii_digit()) && text.parse::<u32>().is_ok()
+}
+
+/// Whether a text is that of eight octets of random.
+fn is_random(text: &str) -> bool
+    ensures { IsTrue result → length text.now ≡ 16 }
+{
+    text.len() == 16
+        && text.bytes().all(|octet| octet.is_ascii_digit() || (b'a'..=b'f').contains(&octet))
+}
+
 /// Whether a name ends in the mark of a process, as `marked` writes it.
-pub fn is_marked(name: &str) -> bool {
+pub fn is_marked(name: &str) -> bool
+    ensures { IsTrue result → EndsInMark name.now }
+{
     let Some((_, mark)) = name.rsplit_once(".P") else {
         return false;
     };
     let Some((process, random)) = mark.split_once('R') else {
         return false;
     };
-    process.bytes().all(|octet| octet.is_ascii_digit())
-        && process.parse::<u32>().is_ok()
-        && random.len() == 16
-        && random.bytes().all(|octet| octet.is_ascii_digit() || (b'a'..=b'f').contains(&octet))
+    is_id(process) && is_random(random)
 }

@@ -1,6 +1,8 @@
 //! What the devices of the file system share: making a file, flushing a folder, and removing what
 //! killed runs left behind.
 
+ghost use Rattle.folder_store.specs.HostPaths.{ArePartsOf};
+
 use crate::process_mark::is_marked;
 use std::fs::{Metadata, OpenFile, OpenOptions};
 use std::io::ErrorKind;
@@ -41,21 +43,17 @@ pub fn flush_folder<F: OpenFile>(folder: &Noted<'_, F>) -> Result<bool, Denial> 
     }
 }
 
-/// The folder that holds what the path names.
-pub fn folder_of(path: &str) -> &str {
-    match path.rsplit_once('/') {
-        Some(("", _)) => "/",
-        Some((folder, _)) => folder,
-        None => ".",
+/// The folder that holds what a path names, and its name there.
+pub fn parts_of(path: &str) -> (&str, &str)
+    ensures { ArePartsOf path.now result.0.now result.1.now }
+{
+    let Some((folder, name)) = path.rsplit_once('/') else {
+        return (".", path);
+    };
+    if folder.is_empty() {
+        return ("/", name);
     }
-}
-
-/// The name in its folder of what the path names.
-pub fn name_in(path: &str) -> &str {
-    match path.rsplit_once('/') {
-        Some((_, name)) => name,
-        None => path,
-    }
+    (folder, name)
 }
 
 /// Whether this is a regular file that was changed last so long ago that no run is writing it.

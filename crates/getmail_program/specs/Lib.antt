@@ -1,3 +1,4 @@
+pub mod Devices
 pub mod Fetching
 pub mod Holding
 pub mod Reasons

@@ -1,8 +1,9 @@
 //! The devices of a run, those on a machine's files, and the time there.
-ghost use Rattle.std.specs.{Prelude.{◌≡◌, ℕ, List, Option}, declared.time.SystemTime.SystemTime};
+ghost use Rattle.std.specs.{Prelude.{◌≡◌, ℕ, List, IsSomeAnd, Option, codes}, declared.time.SystemTime.SystemTime};
 ghost use Rattle.rc_file.specs.declared.settings.Dest.{Dest};
 ghost use Rattle.fetch_session.specs.{Target.{NoneBegun, kind_of}, declared.account.Store.Store};
-ghost use Rattle.getmail_program.specs.Holding.{kind_in};
+ghost use Rattle.folder_store.specs.HostPaths.{AreInMaildir, IsFileAt};
+ghost use Rattle.getmail_program.specs.{Devices.StoreIs, Holding.kind_in};
 
 use fetch_rules::{Dest, Settings};
 use fetch_session::Store;
@@ -87,9 +88,13 @@ impl<'a, R: Files + Clock + AllocGlobal + Clone + Drop> Devices<'a> for HostDevi
 
     type File = HostFile<'a, HostFolder<'a, R>>;
 
-    ghost made_store = { λ _ _ _ _ _. Unit {0} };
+    ghost made_store = { λ _ _ path rests store. StoreIs
+        (λ maildir. AreInMaildir maildir.folders.new_folder.host.paths path (codes "new")
+        × AreInMaildir maildir.folders.cur_folder.host.paths path (codes "cur"))
+        (λ mbox. IsFileAt mbox.folder.paths mbox.name.now path
+        × IsSomeAnd mbox.cut_off (λ kept. IsFileAt kept.folder.paths kept.name.now rests)) store };
 
-    ghost made_record = { λ _ _ _. Unit {0} };
+    ghost made_record = { λ _ path file. IsFileAt file.folder.paths file.name.now path };
 
     ghost showed = { λ _ _. Unit {0} };
 

@@ -1,5 +1,8 @@
 //! Why a call isn't done, and the line of a call that the system refused.
-ghost use Rattle.std.specs.{Prelude.{◌≡◌, ◌++◌, IfOk, OnOk, codes}, String.string_bytes};
+ghost use Rattle.std.specs.{
+  Prelude.{◌≡◌, ◌++◌, IfNone, IfOk, IfSome, None, OnOk, Some, codes},
+  String.string_bytes,
+};
 ghost use Rattle.system_calls.specs.Line.{TellsRefusal};
 
 use crate::line::{shown, write_line};
@@ -68,13 +71,22 @@ impl Denial {
     }
 
     /// What was refused, if that is known.
-    pub fn into_refusal(self) -> Option<Refusal> {
+    pub fn into_refusal(self) -> Option<Refusal>
+        ensures some { IfSome result (λ refusal. (refusal.error ≡ self.error)
+            × (self.path ≡ Some refusal.path)) }
+        ensures none { IfNone result (self.path ≡ None) }
+    {
         let Denial { error, path } = self;
-        path.map(|path| Refusal { path, error })
+        match path {
+            Some(path) => Some(Refusal { path, error }),
+            None => None,
+        }
     }
 }
 
 impl From<AllocError> for Denial {
+    ghost from_gives = { λ _ denial. denial.path ≡ None };
+
     fn from(_error: AllocError) -> Denial {
         Denial {
             error: io::Error::from(ErrorKind::OutOfMemory),
@@ -84,6 +96,8 @@ impl From<AllocError> for Denial {
 }
 
 impl<T: Drop> From<AllocFailed<T>> for Denial {
+    ghost from_gives = { λ _ denial. denial.path ≡ None };
+
     fn from(_error: AllocFailed<T>) -> Denial {
         Denial::from(AllocError)
     }
