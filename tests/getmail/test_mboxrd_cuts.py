@@ -122,9 +122,7 @@ class RefusedSteps(Shared):
 
     @classmethod
     def setUpClass(cls):
-        library = preload.library("refuse_step")
-        cls.library = library.__enter__()
-        cls.addClassCleanup(library.__exit__, None, None, None)
+        cls.library = cls.enterClassContext(preload.library("refuse_step"))
 
     def refused_session(self, account, number, effect="none", later=False, words=(), growth=None):
         """A session with a step refused, or with none, and perhaps a growth of memory; and the lines of its steps."""

@@ -177,9 +177,7 @@ class WithReader(Reading):
     @classmethod
     def setUpClass(cls):
         super().setUpClass()
-        library = preload.library("reader")
-        cls.library = library.__enter__()
-        cls.addClassCleanup(library.__exit__, None, None, None)
+        cls.library = cls.enterClassContext(preload.library("reader"))
 
     def read_at(self, call, **changes):
         """A run whose reader works before that call, and whether there was such a call."""

@@ -117,9 +117,7 @@ class Days(Sessions):
 
     @classmethod
     def setUpClass(cls):
-        library = preload.library("clock")
-        cls.clock = library.__enter__()
-        cls.addClassCleanup(library.__exit__, None, None, None)
+        cls.clock = cls.enterClassContext(preload.library("clock"))
 
     def first_seen(self):
         """The times of the record's rows."""
@@ -276,9 +274,7 @@ class Home(Sessions):
 class Connections(Sessions):
     @classmethod
     def setUpClass(cls):
-        library = preload.library("refuse_call")
-        cls.refusing = library.__enter__()
-        cls.addClassCleanup(library.__exit__, None, None, None)
+        cls.refusing = cls.enterClassContext(preload.library("refuse_call"))
 
     def refuse(self, call):
         return self.account.run("-q", LD_PRELOAD=str(self.refusing), REFUSED_CALL=call)

@@ -67,9 +67,7 @@ class LongAccount(Account):
 class GreatMaildrop(unittest.TestCase):
     @classmethod
     def setUpClass(cls):
-        library = preload.library("skip_flushes")
-        cls.skipping = library.__enter__()
-        cls.addClassCleanup(library.__exit__, None, None, None)
+        cls.skipping = cls.enterClassContext(preload.library("skip_flushes"))
 
     def setUp(self):
         self.served = Maildir(PASSWORD)

@@ -1,4 +1,4 @@
-"""What the kernel says about a running server, so that no connection is spent on finding it out."""
+"""What the kernel says about a running program, so that no connection is spent on finding it out, and no time."""
 
 import contextlib
 import fcntl

@@ -74,21 +74,13 @@ def no_pauses(test):
     return {"LD_PRELOAD": str(test.enterContext(preload.library("hurry"))), "HURRY_TIME": ""}
 
 
-def _for(tests, make):
-    """What is made of the library, which is there until the class of tests is over."""
-    library = preload.library("hurry")
-    made = make(library.__enter__())
-    tests.addClassCleanup(library.__exit__, None, None, None)
-    return made
-
-
 def hurry_for(tests, speed=SPEED):
-    """A `Hurry` for a class of tests."""
-    return _for(tests, lambda library: Hurry(library, speed))
+    """A `Hurry`, whose library is there until the class of tests is over."""
+    return Hurry(tests.enterClassContext(preload.library("hurry")), speed)
 
 
 def time_for(tests):
-    """A `Time` for a class of tests."""
-    made = _for(tests, Time)
-    tests.addClassCleanup(made.close)
-    return made
+    """A `Time`, whose library is there until the class of tests is over."""
+    time = Time(tests.enterClassContext(preload.library("hurry")))
+    tests.addClassCleanup(time.close)
+    return time

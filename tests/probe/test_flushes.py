@@ -13,9 +13,7 @@ class Entries(unittest.TestCase):
 
     @classmethod
     def setUpClass(cls):
-        library = preload.library("note_changes")
-        cls.library = library.__enter__()
-        cls.addClassCleanup(library.__exit__, None, None, None)
+        cls.library = cls.enterClassContext(preload.library("note_changes"))
 
     def setUp(self):
         self.work = folder_for(self)

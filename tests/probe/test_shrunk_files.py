@@ -13,9 +13,7 @@ OLD = entry(b"an older text\n")
 class ShrunkFiles(unittest.TestCase):
     @classmethod
     def setUpClass(cls):
-        library = preload.library("other_hands")
-        cls.library = library.__enter__()
-        cls.addClassCleanup(library.__exit__, None, None, None)
+        cls.library = cls.enterClassContext(preload.library("other_hands"))
 
     def test_a_cut_makes_no_file_longer(self):
         """The append is refused, and the size to cut back to is more than is there: the cut would add zeros."""
