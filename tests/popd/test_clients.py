@@ -23,8 +23,10 @@ MANUAL = (programs.ROOT / "man" / "popd.8").read_text()
 TEXTS = [b"Subject: one\n\nbody\n.a line with a dot\n", b"Subject: two\n\nbody\n"]
 
 
-# What Thunderbird calls "None" and "Password, transmitted insecurely", in an account that takes its mail from the server.
+# What Thunderbird calls "None" and "Password, transmitted insecurely", in an account that takes its mail from the server;
+# it asks no other server of anything.
 ACCOUNT = {
+    "network.dns.disabled": True,
     "mail.accountmanager.accounts": "account1",
     "mail.account.account1.server": "server1",
     "mail.server.server1.type": "pop3",
