@@ -5,6 +5,7 @@ use Rattle.std.specs.{
   Net.Addr.{IsCanonicalOf, IsLoopbackV4, IsLoopbackV6, MatchIp},
   declared.net.ip_addr.IpAddr.IpAddr,
 }
+use Rattle.getmail_setup.specs.declared.failure.Failure.{Failure, TheVariants.NoMemory}
 
 -- an address has a minute to take the connection, in nanoseconds
 abbrev pub connect_limit : ℕ
@@ -31,6 +32,11 @@ pub record TakesFirst {A S : Type 0} (takes : A → S → Type 0) (refuses : A �
   pub there : HoldsAt (λ one. one ≡ address) addresses place
   pub takes_it : takes address stream
   pub before : AllWithin refuses addresses 0 place
+
+-- no connection was made: memory ran out; or, which is told so, no address is known, or each one refused
+abbrev pub IsUnconnected : {A : Type 0} → (List A → Type 0) → Type 0 → (A → Type 0) → Failure → Failure → Type 0
+IsUnconnected {A} named unnamed refuses told failure = (failure ≡ NoMemory) ⊎ ((failure ≡ told)
+    × (unnamed ⊎ ((addresses : List A) × named addresses × AllWithin refuses addresses 0 (length addresses))))
 
 -- an IPv4 address that is written as an IPv6 one stands for itself
 abbrev pub IsCanonical : IpAddr → IpAddr → Type 0

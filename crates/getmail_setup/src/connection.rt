@@ -1,6 +1,6 @@
 //! The connection to the server: over TCP, or to a Unix socket on which a tunnel listens.
 ghost use Rattle.std.specs.{
-  Prelude.{◌≡◌, ◌↔◌, ℕ, IfErr, IfNone, IfOk, IfSome, IsFalse, OnErr, OnOk, false, true, length},
+  Prelude.{◌≡◌, ◌↔◌, ℕ, List, IfErr, IfNone, IfOk, IfSome, IsFalse, OnErr, OnOk, false, true, length},
   Duration.as_nanos,
   List.AllWithin,
   Net.Socket.socket_ip,
@@ -9,7 +9,7 @@ ghost use Rattle.std.specs.{
 };
 ghost use Rattle.trace.specs.Wire.{Hides};
 ghost use Rattle.getmail_setup.specs.{
-  Connecting.{HasLimits, IsCanonical, IsLoopback, Refuses, TakesFirst, connect_limit},
+  Connecting.{HasLimits, IsCanonical, IsLoopback, IsUnconnected, Refuses, TakesFirst, connect_limit},
   Places.{account_name, is_local, is_socket, peer_name},
 };
 
@@ -78,15 +78,26 @@ impl LimitWaits for TcpStream {
     }
 }
 
-/// One that connects to addresses.
+/// One that knows the addresses of servers, and connects to addresses.
 trait Dial {
     type Stream: LimitWaits + Drop;
+
+    // It said that a server of this name, at this port, has these addresses.
+    ghost named: { Self → List ℕ → ℕ → List SocketAddr → Type 0 };
+
+    // It knows none of that server.
+    ghost unnamed: { Self → List ℕ → ℕ → Type 0 };
 
     // An address took this connection, which had so many nanoseconds for it.
     ghost took: { Self → SocketAddr → ℕ → Self.Stream → Type 0 };
 
     // It took none.
     ghost refused: { Self → SocketAddr → ℕ → Type 0 };
+
+    /// The addresses of a server, in the order in which they are to be tried.
+    fn addresses(&self, server: &str, port: u16) -> io::Result<Vec<SocketAddr>>
+        ensures ok { IfOk result (λ addresses. named self.now server.now port addresses.items) }
+        ensures err { IfErr result (λ _. unnamed self.now server.now port) };
 
     fn dial(&self, address: SocketAddr, limit: Duration) -> io::Result<Self::Stream>
         ensures ok { IfOk result (took self.now address (as_nanos limit)) }
@@ -106,9 +117,19 @@ struct Tcp<'a, R> {
 impl<'a, R: Net<Stream = TcpStream> + AllocGlobal> Dial for Tcp<'a, R> {
     type Stream = TcpStream;
 
+    ghost named = { λ _ _ _ _. Unit {0} };
+
+    ghost unnamed = { λ _ _ _. Unit {0} };
+
     ghost took = { λ _ _ _ _. Unit {0} };
 
     ghost refused = { λ _ _ _. Unit {0} };
+
+    fn addresses(&self, server: &str, port: u16) -> io::Result<Vec<SocketAddr>> {
+        let found = (server, port).to_socket_addrs(self.rt);
+        let found = self.refusals.noted("getaddrinfo", server, found)?;
+        Ok(found.collect(self.rt.alloc())?)
+    }
 
     /// Each command goes out at once.
     fn dial(&self, address: SocketAddr, limit: Duration) -> io::Result<TcpStream> {
@@ -165,6 +186,29 @@ fn connect_to_first<D: Dial>(net: &D, addresses: &[SocketAddr]) -> Option<(D::St
     None
 }
 
+/// Connects to the first of a server's addresses that takes the connection, and says which it is.
+fn connect_over_tcp<'a, D: Dial>(
+    net: &D,
+    server: &'a str,
+    port: u16,
+) -> Result<(D::Stream, SocketAddr), Failure<'a>>
+    ensures ok { IfOk result (λ taken. (addresses : List SocketAddr) × D.named net.now server.now port addresses
+        × TakesFirst (λ address stream. D.took net.now address connect_limit stream
+        × HasLimits D.Stream.limits_reads D.Stream.limits_writes stream)
+        (Refuses (D.refused net.now) (D.took net.now) D.Stream.is_refused) addresses taken.0 taken.1) }
+    ensures err { IfErr result (IsUnconnected (D.named net.now server.now port) (D.unnamed net.now server.now port)
+        (Refuses (D.refused net.now) (D.took net.now) D.Stream.is_refused) (Failure.CannotConnect server.entry port)) }
+{
+    let addresses = match net.addresses(server, port) {
+        Ok(addresses) => addresses,
+        Err(error) => return Err(failure_of(error, Failure::CannotConnect(server, port))),
+    };
+    match connect_to_first(net, addresses.as_slice()) {
+        Some(taken) => Ok(taken),
+        None => Err(Failure::CannotConnect(server, port)),
+    }
+}
+
 /// Connects to a socket. What reads and writes a stream is the same for either kind.
 fn connect_to_socket<R: Net<Stream = TcpStream>>(net: &R, path: &str) -> io::Result<TcpStream> {
     let stream = UnixStream::connect(net, path)?;
@@ -206,7 +250,13 @@ pub fn connect<'a, R: Net<Stream = TcpStream> + AllocGlobal>(
     ensures { is_socket server.now ≡ true → IfOk result (λ connection. connection.leaves ≡ false) }
 {
     if !is_socket(server) {
-        return connect_over_tcp(rt, refusals, server, port);
+        return match connect_over_tcp(&Tcp { rt, refusals }, server, port) {
+            Ok((stream, address)) => Ok(Connection {
+                stream,
+                leaves: leaves(&address),
+            }),
+            Err(failure) => Err(failure),
+        };
     }
     match refusals.noted("connect", server, connect_to_socket(rt, server)) {
         Ok(stream) => Ok(Connection {
@@ -222,27 +272,6 @@ fn leaves(address: &SocketAddr) -> bool
     ensures { (ip : IpAddr) × IsCanonical (socket_ip address.now) ip × (IsFalse result ↔ IsLoopback ip) }
 {
     !address.ip().to_canonical().is_loopback()
-}
-
-/// Connects to the first of the server's addresses that takes the connection.
-fn connect_over_tcp<'a, R: Net<Stream = TcpStream> + AllocGlobal>(
-    rt: &R,
-    refusals: &Refusals,
-    server: &'a str,
-    port: u16,
-) -> Result<Connection, Failure<'a>> {
-    let addresses = (server, port).to_socket_addrs(rt);
-    let addresses: Vec<SocketAddr> = match refusals.noted("getaddrinfo", server, addresses) {
-        Ok(addresses) => addresses.collect(rt.alloc())?,
-        Err(error) => return Err(failure_of(error, Failure::CannotConnect(server, port))),
-    };
-    match connect_to_first(&Tcp { rt, refusals }, addresses.as_slice()) {
-        Some((stream, address)) => Ok(Connection {
-            stream,
-            leaves: leaves(&address),
-        }),
-        None => Err(Failure::CannotConnect(server, port)),
-    }
 }
 
 /// What the link needs besides the connection: the peer's name in a trace, and the password that it hides.
