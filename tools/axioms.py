@@ -28,6 +28,8 @@ HANDLE = re.compile(r"\b(Threads|Wait|Net|Processes)\b[<+ ]")
 NAMES_PREMISE = re.compile(r"\bsound\b")
 GHOST = re.compile(r"\bghost (\w+):")
 OPEN = re.compile(r"\bghost (\w+) = \{ λ[ _]*\. Unit \{0\} \};")
+# Traits of std whose calls do what the impl says by this member, if it gives it.
+STATED = {"Display": "output", "From": "from_gives"}
 # Clauses that don't say what a function does: a count of refusals, which faults there are, a bound, or what is known of a
 # device of which nothing is known.
 PINS_NOTHING = re.compile(r"Tallies .*|self\.new ≡ record self\.old \{ failures = self\.new\.failures \}"
@@ -210,8 +212,8 @@ class Programs:
         clauses = function.pins()
         if not (impl := next((impl for impl in impls if impl.at <= function.at < impl.at + len(impl.text)), None)):
             return clauses != []
-        if impl.trait == "From":
-            return "ghost from_gives = " in impl.text
+        if member := STATED.get(impl.trait):
+            return f"ghost {member} = " in impl.text
         clauses = clauses or list(self.pins(impl, function))
         is_assumed = self.premise(impl) == UNKNOWN and any(map(NAMES_PREMISE.search, clauses))
         return clauses != [] and not is_assumed

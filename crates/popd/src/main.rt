@@ -2,11 +2,11 @@
 #![tactic(auto)]
 
 use command_line::StandIns;
-use popd_program::obey_command_line;
+use popd_program::{arguments, obey_command_line};
 use std::process::ExitCode;
 
 fn main(rt: HostRuntime) -> ExitCode {
     let _stand_ins = StandIns::new(&rt);
     let streams = (rt.stdin(), rt.stdout());
-    ExitCode::from(obey_command_line(&rt, streams, rt.stderr()))
+    ExitCode::from(obey_command_line(&rt, arguments(&rt), streams, rt.stderr()))
 }

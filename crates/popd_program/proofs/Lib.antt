@@ -1,1 +1,2 @@
 mod WordsLemmas
+mod WarningLemmas

@@ -17,3 +17,9 @@ pub record IsAccount (gave : List ℕ → ℕ → List ℕ → Type 0) (words : 
   pub given : gave passfile (2 ^ 64 - 1) file
   pub password : account.password.items ≡ password_of file
   pub maildir : option_map string_bytes words.maildir ≡ Some (string_bytes account.maildir)
+
+-- the same user, password and Maildir
+pub record IsCopy (copy account : Account) : Type 0 where
+  pub user : copy.user.items ≡ account.user.items
+  pub password : copy.password.items ≡ account.password.items
+  pub maildir : string_bytes copy.maildir ≡ string_bytes account.maildir

@@ -4,4 +4,8 @@ pub mod Failures
 pub mod Password
 pub mod Rehearsal
 pub mod Start
+pub mod Starting
+pub mod Texts
 pub mod Visits
+pub mod Waiting
+pub mod Warnings

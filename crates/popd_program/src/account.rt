@@ -1,6 +1,6 @@
 //! The account that is served: user, password and Maildir.
 ghost use Rattle.std.specs.{Prelude.{◌≡◌, [], true, false, IfOk, IfErr, codes}, String.string_bytes};
-ghost use Rattle.popd_program.specs.{Account.IsAccount, Failures.{IsCause, IsUnread}, Start.at_start};
+ghost use Rattle.popd_program.specs.{Account.{IsAccount, IsCopy}, Failures.{IsCause, IsUnread}, Start.at_start};
 
 use crate::failure::{Failure, failure_of};
 use crate::password::password;
@@ -25,9 +25,7 @@ pub struct Account {
 impl Account {
     /// A copy of the account.
     pub fn copy(&self, alloc: Global) -> Result<Account, AllocError>
-        ensures { IfOk result (λ account. (account.user.items ≡ self.now.user.items)
-            × (account.password.items ≡ self.now.password.items)
-            × (string_bytes account.maildir ≡ string_bytes self.now.maildir)) }
+        ensures { IfOk result (λ account. IsCopy account self.now) }
     {
         Ok(Account {
             user: Vec::from_slice(alloc, self.user.as_slice())?,

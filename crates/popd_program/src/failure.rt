@@ -1,10 +1,15 @@
 //! Why the program serves nothing, or ends early: its line on standard error and its exit status.
 ghost use Rattle.std.specs.{Prelude.{◌≡◌, ◌≢◌, ◌⊎◌, ◌≤◌}, IoError.error_kind};
 ghost use Rattle.pop3_server.specs.declared.fault.ServerFault.TheVariants.{NoMemory};
-ghost use Rattle.popd_program.specs.{declared.failure.Failure.TheVariants.Fault, Failures.status_of_serving};
+ghost use Rattle.popd_program.specs.{
+  declared.failure.Failure.TheVariants.Fault,
+  Failures.status_of_serving,
+  Texts.words_of_fault,
+};
 
 use pop3_server::ServerFault;
 use std::alloc::AllocError;
+use std::fmt::{self, Display, Formatter, Write};
 use std::io::{self, ErrorKind};
 use std::str;
 use system_calls::Refusals;
@@ -51,17 +56,38 @@ pub fn failure_of<'a>(error: io::Error, failure: Failure<'a>) -> Failure<'a>
     }
 }
 
+/// What a line says of a fault.
+pub fn words_of_fault(fault: ServerFault) -> &'static str
+    ensures { result.now ≡ words_of_fault fault }
+{
+    match fault {
+        ServerFault::ReadFailed => "read failed",
+        ServerFault::WriteFailed => "write failed",
+        ServerFault::MaildropFailed => "maildrop failed",
+        ServerFault::NoMemory => "out of memory",
+    }
+}
+
+impl<'a> Display for Failure<'a> {
+    ghost use Rattle.std.specs.Prelude.{Some};
+    ghost use Rattle.popd_program.specs.Texts.{words_of_failure};
+
+    ghost output = { λ f. Some (words_of_failure f) };
+
+    fn fmt<W: Write>(&self, f: &mut Formatter<W>) -> fmt::Result {
+        match *self {
+            Failure::WrongCount => f.write_str("wrong number of arguments"),
+            Failure::CannotRead(name) => write!(f, "cannot read {name}"),
+            Failure::CannotListen(address) => write!(f, "cannot listen on {address}"),
+            Failure::Fault(fault) => f.write_str(words_of_fault(fault)),
+        }
+    }
+}
+
 /// Writes a failure's line to standard error. It allocates nothing, and a line that can't be written
 /// changes nothing.
 pub fn tell<R: Eprint>(rt: &R, failure: Failure<'_>) {
-    let _ = match failure {
-        Failure::WrongCount => rt.eprintln("popd: wrong number of arguments"),
-        Failure::CannotRead(name) => rt.eprintln(format_args!("popd: cannot read {name}")),
-        Failure::CannotListen(address) => {
-            rt.eprintln(format_args!("popd: cannot listen on {address}"))
-        }
-        Failure::Fault(fault) => rt.eprintln(format_args!("popd: {fault}")),
-    };
+    let _ = rt.eprintln(format_args!("popd: {failure}"));
 }
 
 /// Writes why a file couldn't be read or an address couldn't be listened on: the path or the address, and

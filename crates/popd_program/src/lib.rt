@@ -13,5 +13,6 @@ mod waits;
 mod warning;
 mod words;
 
+pub use failure::Failure;
 pub use rehearsal::rehearsal_drop;
-pub use start::obey_command_line;
+pub use start::{arguments, obey_command_line};

@@ -1,7 +1,7 @@
 //! Serves standard input and output, or TCP connections one after the other.
-ghost use Rattle.std.specs.Prelude.{◌≡◌, ◌⊎◌, true, IfOk, IfErr};
+ghost use Rattle.std.specs.{Prelude.{◌≡◌, ◌⊎◌, true, IfOk, IfErr}, String.string_bytes};
 ghost use Rattle.pop3_server.specs.ServerMachine.{is_open};
-ghost use Rattle.popd_program.specs.Visits.{removals_by};
+ghost use Rattle.popd_program.specs.{Account.IsCopy, Texts.client_name, Visits.removals_by};
 
 use crate::account::Account;
 use crate::failure::{Failure, failure_of, tell};
@@ -39,6 +39,8 @@ fn link_over<'s, R: AllocGlobal, I, O>(
 where
     I: Read + Drop,
     O: Write + Drop,
+    ensures reader { result.wire.reader.inner ≡ input.entry.0 }
+    ensures writer { result.wire.writer.inner ≡ output.entry.0 }
 {
     let (alloc, refusals) = (system.alloc(), system.refusals);
     let reader = Noted::new(alloc, input.0, input.1, refusals);
@@ -100,7 +102,10 @@ fn begin<'a, R: Clock + AllocGlobal>(
     stream: &'a TcpStream,
     peer: Peer,
     account: &Account,
-) -> Result<(Account, BoundedStream<'a, R>, String), ServerFault> {
+) -> Result<(Account, BoundedStream<'a, R>, String), ServerFault>
+    ensures account { IfOk result (λ begun. IsCopy begun.0 account.now) }
+    ensures name { IfOk result (λ begun. string_bytes begun.2 ≡ client_name peer) }
+{
     let account = account.copy(system.alloc())?;
     let stream = match BoundedStream::new(system.rt, stream) {
         Ok(stream) => stream,

@@ -1,8 +1,14 @@
 //! Doing what the command line asks for, from its words to the exit status.
-ghost use Rattle.std.specs.Prelude.{◌≡◌, ◌≢◌, ◌≤◌, ◌⊎◌, true, false, IfErr, MatchResult};
+ghost use Rattle.std.specs.{
+  Prelude.{◌≡◌, ◌≢◌, ◌≤◌, ◌⊎◌, true, false, Err, IfErr, IfOk, MatchResult, map},
+  String.string_bytes,
+};
 ghost use Rattle.clap.specs.Values.{kind_of};
 ghost use Rattle.command_line.specs.Rules.{is_asked_text};
-ghost use Rattle.popd_program.specs.Failures.{IsCause, has_right_count};
+ghost use Rattle.popd_program.specs.{
+  Failures.{IsCause, has_right_count, status_of_serving},
+  Starting.{EndsWith, IsServed},
+};
 
 use crate::account::read_account;
 use crate::failure::{Failure, end, failure_of, tell_reason};
@@ -24,7 +30,7 @@ use system_calls::{Refusals, System};
 
 /// The words of the command line, the program's name first. If they can't be read, for example because
 /// one isn't UTF-8, the failure is that of a wrong number of words.
-fn arguments<R: Env + AllocGlobal>(rt: &R) -> Result<Vec<String>, Failure<'static>>
+pub fn arguments<R: Env + AllocGlobal>(rt: &R) -> Result<Vec<String>, Failure<'static>>
     ensures { IfErr result (λ f. (f ≡ Failure.WrongCount) ⊎ (f ≡ Failure.Fault ServerFault.NoMemory)) }
 {
     match env::args(rt) {
@@ -64,7 +70,8 @@ where
         return Ok(serve_streams(system, &mut server, telling, streams)?);
     }
     let account = read_account(system.alloc(), system, words)?;
-    warn_of(system, &account, words.passfile.as_deref())?;
+    let passfile = words.passfile.as_deref().unwrap_or("");
+    warn_of(system, &account, passfile)?;
     let maildir = account.open_maildir(system)?;
     match &words.listen {
         Some(address) => {
@@ -128,7 +135,8 @@ where
     R: RandomSource + AllocGlobal + Eprint + Copy + Drop,
     I: Read + Drop,
     O: Write + Drop,
-    ensures { result ≤ 2 }
+    ensures within { result ≤ 2 }
+    ensures obeys { IsServed words.now result }
 {
     let refusals = Refusals::new(rt.alloc(), if words.trace { Some(err) } else { None });
     let tells_reasons = words.verbose || err.is_terminal();
@@ -146,17 +154,24 @@ where
     status
 }
 
-/// Does what the command line of a runtime asks for, and returns the exit status. If it is empty, the usage
-/// is shown too. The streams are standard input and output; a trace goes to `err`.
-pub fn obey_command_line<R, I, O>(rt: &R, streams: (I, O), err: Stderr) -> u8
+/// Does what a command line asks for, and returns the exit status. If it is empty, the usage is shown too. The
+/// streams are standard input and output; a trace goes to `err`.
+pub fn obey_command_line<R, I, O>(
+    rt: &R,
+    arguments: Result<Vec<String>, Failure<'_>>,
+    streams: (I, O),
+    err: Stderr,
+) -> u8
 where
     R: Net<Listener = TcpListener, Stream = TcpStream> + Files + Env + Clock,
     R: RandomSource + AllocGlobal + Print + Eprint + Copy + Drop,
     I: Read + Drop,
     O: Write + Drop,
-    ensures { result ≤ 2 }
+    ensures within { result ≤ 2 }
+    ensures leads { IfOk arguments.entry (λ arguments. EndsWith (map string_bytes arguments.items) result) }
+    ensures failed { IfErr arguments.entry (λ failure. result ≡ status_of_serving (Err failure)) }
 {
-    let arguments = match arguments(rt) {
+    let arguments = match arguments {
         Ok(arguments) => arguments,
         Err(failure) => return end(rt, Err(failure)),
     };

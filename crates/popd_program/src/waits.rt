@@ -1,6 +1,11 @@
 //! How long a client may keep the server waiting (RFC 1939, section 3, asks for at least ten minutes
 //! after the login).
-ghost use Rattle.std.specs.{Prelude.{◌≡◌, ◌≤◌, ◌<◌, ◌+◌, ◌*◌, length, min, IfOk, IfSome, None}, Duration.as_nanos};
+ghost use Rattle.std.specs.{
+  Duration.as_nanos,
+  Io.KnownBytes.WriteAppends,
+  Prelude.{◌≡◌, ◌≢◌, ◌≤◌, ◌+◌, ◌*◌, length, min, false, true, IfOk, IfSome, None},
+};
+ghost use Rattle.popd_program.specs.Waiting.{IsNext};
 
 use pop3_server::{Event, Journal};
 use std::cell::Cell;
@@ -53,8 +58,7 @@ impl Pause {
     /// How long it lasts; the next one lasts longer.
     pub fn take(&mut self) -> Duration
         ensures length { as_nanos result ≡ self.old.seconds * 1_000_000_000 }
-        ensures doubles { self.old.seconds < 8 → self.new.seconds ≡ 2 * self.old.seconds }
-        ensures most { 8 ≤ self.old.seconds → self.new.seconds ≡ self.old.seconds }
+        ensures next { IsNext self.old self.new }
     {
         let pause = Duration::from_secs(self.seconds);
         if self.seconds < MOST_PAUSE_SECONDS {
@@ -88,6 +92,20 @@ fn left_after(passed: Duration) -> Option<Duration>
         Some(left) if !left.is_zero() => Some(left),
         _ => None,
     }
+}
+
+/// Writes to a client that is logged in, as soon as it takes something.
+fn write_patiently<W: Write>(stream: &mut W, buf: &[u8]) -> io::Result<usize>
+    ensures bound { IfOk result (λ count. count ≤ length buf.now) }
+    ensures bytes { WriteAppends (W.contents stream.old) (W.contents stream.new) result buf.now }
+{
+    for _ in 0..MOST_TRIES {
+        match stream.write(buf) {
+            Err(error) if error.kind() == ErrorKind::WouldBlock => {}
+            answer => return answer,
+        }
+    }
+    Err(ErrorKind::TimedOut.into())
 }
 
 /// A connection whose reads and writes have a time limit. One that takes longer fails, which ends the
@@ -129,20 +147,6 @@ impl<'a, R: Clock> BoundedStream<'a, R> {
         }
     }
 
-    /// Writes to a client that is logged in, as soon as it takes something.
-    fn write_patiently(&self, buf: &[u8]) -> io::Result<usize>
-        ensures { IfOk result (λ count. count ≤ length buf.now) }
-    {
-        let mut stream = self.stream;
-        for _ in 0..MOST_TRIES {
-            match stream.write(buf) {
-                Err(error) if error.kind() == ErrorKind::WouldBlock => {}
-                answer => return answer,
-            }
-        }
-        Err(ErrorKind::TimedOut.into())
-    }
-
     /// The client has logged in: limits how long each read and each try to write waits from now on.
     fn end_login(&self) -> io::Result<()> {
         let wait = Duration::from_secs(IDLE_SECONDS);
@@ -166,11 +170,11 @@ impl<'a, R: Clock> Read for &BoundedStream<'a, R> {
 
 impl<'a, R: Clock> Write for &BoundedStream<'a, R> {
     fn write(&mut self, buf: &[u8]) -> io::Result<usize> {
-        let Some(left) = self.left()? else {
-            return self.write_patiently(buf);
-        };
-        self.stream.set_write_timeout(Some(left))?;
         let mut stream = self.stream;
+        let Some(left) = self.left()? else {
+            return write_patiently(&mut stream, buf);
+        };
+        stream.set_write_timeout(Some(left))?;
         stream.write(buf)
     }
 
@@ -189,14 +193,18 @@ pub struct LoginJournal<'a, R, J: Journal + Drop> {
 }
 
 impl<'a, R: Clock, J: Journal + Drop> Journal for LoginJournal<'a, R, J> {
-    fn note(&mut self, event: Event) {
+    fn note(&mut self, event: Event)
+        ensures refused { event ≡ Event.Refused → IsNext self.old.pause self.new.pause }
+        ensures other { event ≢ Event.Refused → self.new.pause ≡ self.old.pause }
+    {
         if let Event::LoggedIn(_) = event {
             let _ = self.stream.end_login();
         }
         self.journal.note(event);
-        if let Event::Refused = event {
-            self.stream.hold_back(self.pause.take());
-        }
+        let Event::Refused = event else {
+            return;
+        };
+        self.stream.hold_back(self.pause.take());
     }
 }
 
@@ -211,12 +219,19 @@ pub struct HoldingJournal<'a, R, J: Journal + Drop> {
 }
 
 impl<'a, R: Clock, J: Journal + Drop> Journal for HoldingJournal<'a, R, J> {
-    fn note(&mut self, event: Event) {
+    fn note(&mut self, event: Event)
+        ensures refused { event ≡ Event.Refused → self.old.is_connection ≡ true
+            → IsNext self.old.pause self.new.pause }
+        ensures other { event ≢ Event.Refused → self.new.pause ≡ self.old.pause }
+        ensures alone { self.old.is_connection ≡ false → self.new.pause ≡ self.old.pause }
+    {
         self.journal.note(event);
-        if let Event::Refused = event {
-            if self.is_connection {
-                thread::sleep(self.rt, self.pause.take());
-            }
+        let Event::Refused = event else {
+            return;
+        };
+        if !self.is_connection {
+            return;
         }
+        thread::sleep(self.rt, self.pause.take());
     }
 }

@@ -1,9 +1,22 @@
 //! Warnings: the program goes on after them.
+ghost use Rattle.std.specs.{
+  Prelude.{◌≡◌, ◌++◌, ◌↔◌, IfOk, IsFalse, OnOk, map},
+  Fmt.WritesOnOk,
+  Net.Socket.socket_ip,
+  String.string_bytes,
+  declared.net.ip_addr.IpAddr.IpAddr,
+};
+ghost use Rattle.popd_program.specs.{
+  Texts.{shown_path, shown_character, words_of_warning},
+  Warnings.{IsUnmapped, IsOfMachine, given_if, is_open_to_others, is_others, is_served, warnings_of},
+};
+
 use crate::account::Account;
+use crate::failure::words_of_fault;
 use folder_drop::TwoMessages;
 use mail_terms::is_credential;
 use pop3_server::ServerFault;
-use std::alloc::AllocError;
+use std::alloc::{AllocError, Global};
 use std::fmt::{self, Display, Formatter, Write};
 use std::net::{SocketAddr, TcpListener};
 use std::os::unix::fs::{MetadataExt, PermissionsExt};
@@ -33,62 +46,173 @@ pub enum Warning<'a> {
     Cut(SocketAddr, ServerFault),
 }
 
+/// Writes a character as a line shows it: a control character by its number.
+fn write_character<W: Write>(f: &mut Formatter<W>, character: char) -> fmt::Result
+    ensures { WritesOnOk W.write_str_gives f.old result (shown_character character) f.new }
+{
+    if character.is_control() {
+        return write!(f, "\\u{{{:x}}}", character as u32);
+    }
+    f.write_char(character)
+}
+
+/// Writes a path as a line shows it.
+fn write_shown<W: Write>(f: &mut Formatter<W>, path: &str) -> fmt::Result
+    ensures { WritesOnOk W.write_str_gives f.old result (shown_path path.now) f.new }
+{
+    for character in path.chars() {
+        write_character(f, character)?;
+    }
+    Ok(())
+}
+
 /// A path as a line shows it: with control characters escaped.
 #[derive(Clone, Copy)]
 struct Shown<'a>(&'a str);
 
 impl<'a> Display for Shown<'a> {
+    ghost use Rattle.std.specs.Prelude.{Some};
+    ghost use Rattle.popd_program.specs.Texts.{shown_path};
+
+    ghost output = { λ s. Some (shown_path s.0.now) };
+
     fn fmt<W: Write>(&self, f: &mut Formatter<W>) -> fmt::Result {
-        for character in self.0.chars() {
-            if character.is_control() {
-                write!(f, "\\u{{{:x}}}", character as u32)?;
-            } else {
-                f.write_char(character)?;
-            }
-        }
-        Ok(())
+        write_shown(f, self.0)
     }
 }
 
 /// Why no client can give a name or a password.
 const NOT_GIVEN: &str = "it is empty, longer than 500 octets, or has a CR, LF or NUL in it";
 
+/// What to do about another owner.
+const RUN_AS: &str = "run popd as that user, by User= in a unit or runuser(1)";
+
+/// What is wrong with an address that isn't loopback.
+const UNENCRYPTED: &str = "password and mail go over the network unencrypted";
+
+/// Why neither of two files is removed.
+const MAY_DIFFER: &str = "have one unique-id but may be different messages";
+
+impl<'a> Display for Warning<'a> {
+    ghost use Rattle.std.specs.Prelude.{Some};
+    ghost use Rattle.popd_program.specs.Texts.{words_of_warning};
+
+    ghost output = { λ w. Some (words_of_warning w) };
+
+    fn fmt<W: Write>(&self, f: &mut Formatter<W>) -> fmt::Result {
+        match *self {
+            Warning::NoFolder(path, name) => write!(f, "{} has no folder {name}", Shown(path)),
+            Warning::NoUser => write!(f, "no client can give this USER: {NOT_GIVEN}"),
+            Warning::NoPassword => write!(f, "no client can give this password: {NOT_GIVEN}"),
+            Warning::OpenPassfile(path) => write!(
+                f,
+                "others than its owner may read or write {}",
+                Shown(path)
+            ),
+            Warning::OtherOwner(path, owner) => {
+                write!(f, "{} belongs to user {owner}: {RUN_AS}", Shown(path))
+            }
+            Warning::Network(address) => write!(f, "{address} isn't loopback: {UNENCRYPTED}"),
+            Warning::Unread(path) => write!(f, "cannot read {}", Shown(path)),
+            Warning::NotRemoved(two) => write!(
+                f,
+                "not removed: {} and {} {MAY_DIFFER}",
+                Shown(two.listed.as_str()),
+                Shown(two.other.as_str())
+            ),
+            Warning::Cut(client, fault) => write!(f, "{client}: {}", words_of_fault(fault)),
+        }
+    }
+}
+
 /// Writes a warning to standard error. It allocates nothing.
 pub fn warn<R: Eprint>(rt: &R, warning: Warning<'_>) {
-    let _ = match warning {
-        Warning::NoFolder(path, name) => rt.eprintln(format_args!(
-            "popd: warning: {} has no folder {name}",
-            Shown(path)
-        )),
-        Warning::NoUser => rt.eprintln(format_args!(
-            "popd: warning: no client can give this USER: {NOT_GIVEN}"
-        )),
-        Warning::NoPassword => rt.eprintln(format_args!(
-            "popd: warning: no client can give this password: {NOT_GIVEN}"
-        )),
-        Warning::OpenPassfile(path) => rt.eprintln(format_args!(
-            "popd: warning: others than its owner may read or write {}",
-            Shown(path)
-        )),
-        Warning::OtherOwner(path, owner) => rt.eprintln(format_args!(
-            "popd: warning: {} belongs to user {owner}: run popd as that user, by User= in a unit or runuser(1)",
-            Shown(path)
-        )),
-        Warning::Network(address) => rt.eprintln(format_args!(
-            "popd: warning: {address} isn't loopback: password and mail go over the network unencrypted"
-        )),
-        Warning::Unread(path) => {
-            rt.eprintln(format_args!("popd: warning: cannot read {}", Shown(path)))
-        }
-        Warning::NotRemoved(two) => rt.eprintln(format_args!(
-            "popd: warning: not removed: {} and {} have one unique-id but may be different messages",
-            Shown(two.listed.as_str()),
-            Shown(two.other.as_str())
-        )),
-        Warning::Cut(client, fault) => {
-            rt.eprintln(format_args!("popd: warning: {client}: {fault}"))
-        }
-    };
+    let _ = rt.eprintln(format_args!("popd: warning: {warning}"));
+}
+
+/// What was found in a folder's place: whether it leads to a folder, and by a link.
+#[derive(Clone, Copy)]
+pub struct FolderFound {
+    pub is_folder: bool,
+    pub is_link: bool,
+}
+
+impl FolderFound {
+    /// Whether files can be served from it. The superuser follows no link to a folder.
+    fn is_served(self, is_superuser: bool) -> bool
+        ensures { result ≡ is_served is_superuser self }
+    {
+        self.is_folder && !(is_superuser && self.is_link)
+    }
+}
+
+/// What was found of an account's files: the password file's mode, the Maildir's owner, and its folders.
+#[derive(Clone, Copy)]
+pub struct Findings {
+    pub is_superuser: bool,
+    pub passfile: Option<u32>,
+    pub owner: Option<u32>,
+    pub new_folder: FolderFound,
+    pub cur_folder: FolderFound,
+}
+
+impl Findings {
+    /// Whether the superuser serves another user's Maildir.
+    fn is_others(self) -> bool
+        ensures { result ≡ is_others self }
+    {
+        self.is_superuser && self.owner.unwrap_or(0) != 0
+    }
+}
+
+/// Whether others than its owner may read or write a file of this mode.
+fn is_open_to_others(mode: u32) -> bool
+    ensures { result ≡ is_open_to_others mode }
+{
+    mode & 0o066 != 0
+}
+
+/// Adds a warning, if it is to be given.
+fn add_if<'a>(
+    warnings: &mut Vec<Warning<'a>>,
+    holds: bool,
+    warning: Warning<'a>,
+) -> Result<(), AllocError>
+    ensures { OnOk result (map words_of_warning warnings.new.items
+        ≡ map words_of_warning warnings.old.items ++ given_if holds (words_of_warning warning.entry)) }
+{
+    if !holds {
+        return Ok(());
+    }
+    warnings.push(warning)?;
+    Ok(())
+}
+
+/// The warnings of an account of which this was found: of all that may keep it from being served properly.
+fn warnings_of<'a>(
+    alloc: Global,
+    account: &'a Account,
+    passfile: &'a str,
+    found: Findings,
+) -> Result<Vec<Warning<'a>>, AllocError>
+    ensures { IfOk result (λ warnings. map words_of_warning warnings.items ≡ warnings_of account.now.user.items
+        account.now.password.items (string_bytes account.now.maildir) passfile.now found) }
+{
+    let maildir = account.maildir.as_str();
+    let no_user = !is_credential(account.user.as_slice());
+    let no_password = !is_credential(account.password.as_slice());
+    let is_open = is_open_to_others(found.passfile.unwrap_or(0));
+    let mut warnings = Vec::new(alloc);
+    add_if(&mut warnings, no_user, Warning::NoUser)?;
+    add_if(&mut warnings, no_password, Warning::NoPassword)?;
+    add_if(&mut warnings, is_open, Warning::OpenPassfile(passfile))?;
+    let other_owner = Warning::OtherOwner(maildir, found.owner.unwrap_or(0));
+    add_if(&mut warnings, found.is_others(), other_owner)?;
+    let no_new = !found.new_folder.is_served(found.is_superuser);
+    add_if(&mut warnings, no_new, Warning::NoFolder(maildir, "new"))?;
+    let no_cur = !found.cur_folder.is_served(found.is_superuser);
+    add_if(&mut warnings, no_cur, Warning::NoFolder(maildir, "cur"))?;
+    Ok(warnings)
 }
 
 /// Whether this process may open the files of all users.
@@ -96,72 +220,56 @@ fn is_superuser() -> bool {
     libc::geteuid() == 0
 }
 
-/// Whether there is a folder at this path. The superuser follows no link to one.
-fn is_folder<R: Files + AllocGlobal>(system: &System<'_, R>, path: &str) -> bool {
-    match system.stat(path) {
-        Ok(metadata) if is_superuser() => metadata.is_dir() && !is_link(system, path),
-        Ok(metadata) => metadata.is_dir(),
-        Err(_) => false,
-    }
-}
-
-/// Whether there is a link at this path.
-fn is_link<R: Files + AllocGlobal>(system: &System<'_, R>, path: &str) -> bool {
-    match system.lstat(path) {
-        Ok(metadata) => metadata.is_symlink(),
-        Err(_) => false,
-    }
-}
-
-/// Whether others than its owner may read or write a file.
-fn is_others_too<R: Files + AllocGlobal>(system: &System<'_, R>, path: &str) -> bool {
-    match system.stat(path) {
-        Ok(metadata) => metadata.permissions().mode() & 0o066 != 0,
-        Err(_) => false,
-    }
-}
-
-/// Warns of a name or a password that no client can give.
-fn warn_of_login<R: Eprint>(rt: &R, account: &Account) {
-    if !is_credential(account.user.as_slice()) {
-        warn(rt, Warning::NoUser);
-    }
-    if !is_credential(account.password.as_slice()) {
-        warn(rt, Warning::NoPassword);
-    }
-}
-
-/// Warns if the Maildir has no folder of this name.
-fn warn_of_folder<R: Files + AllocGlobal + Eprint>(
+/// What is in the place of a Maildir's folder. A link matters only to the superuser.
+fn look_at<R: Files + AllocGlobal>(
     system: &System<'_, R>,
     maildir: &str,
-    name: &'static str,
-) -> Result<(), AllocError> {
+    name: &str,
+) -> Result<FolderFound, AllocError> {
     let path = format!(in system.alloc(); "{maildir}/{name}")?;
-    if !is_folder(system, path.as_str()) {
-        warn(system.rt, Warning::NoFolder(maildir, name));
-    }
-    Ok(())
+    let path = path.as_str();
+    Ok(FolderFound {
+        is_folder: system.stat(path).is_ok_and(|found| found.is_dir()),
+        is_link: is_superuser() && system.lstat(path).is_ok_and(|found| found.is_symlink()),
+    })
 }
 
-/// Warns the superuser of a Maildir that belongs to somebody else.
-fn warn_of_owner<R: Files + AllocGlobal + Eprint>(system: &System<'_, R>, maildir: &str) {
+/// The owner of a Maildir, which matters only to the superuser.
+fn owner_of<R: Files + AllocGlobal>(system: &System<'_, R>, maildir: &str) -> Option<u32> {
     if !is_superuser() {
-        return;
+        return None;
     }
-    if let Ok(metadata) = system.stat(maildir) {
-        if metadata.uid() != 0 {
-            warn(system.rt, Warning::OtherOwner(maildir, metadata.uid()));
-        }
-    }
+    system.stat(maildir).ok().map(|found| found.uid())
+}
+
+/// What is found of an account's files.
+fn look_around<R: Files + AllocGlobal>(
+    system: &System<'_, R>,
+    maildir: &str,
+    passfile: &str,
+) -> Result<Findings, AllocError> {
+    let passfile = system.stat(passfile);
+    Ok(Findings {
+        is_superuser: is_superuser(),
+        passfile: passfile.ok().map(|found| found.permissions().mode()),
+        owner: owner_of(system, maildir),
+        new_folder: look_at(system, maildir, "new")?,
+        cur_folder: look_at(system, maildir, "cur")?,
+    })
+}
+
+/// Whether what is sent to an address leaves this machine.
+fn is_beyond(address: &SocketAddr) -> bool
+    ensures { (ip : IpAddr) × IsUnmapped (socket_ip address.now) ip × (IsFalse result ↔ IsOfMachine ip) }
+{
+    !address.ip().to_canonical().is_loopback()
 }
 
 /// Warns of an address that isn't loopback.
 pub fn warn_of_network<R: Eprint>(rt: &R, listener: &TcpListener) {
-    if let Ok(address) = listener.local_addr() {
-        if !address.ip().to_canonical().is_loopback() {
-            warn(rt, Warning::Network(address));
-        }
+    match listener.local_addr() {
+        Ok(address) if is_beyond(&address) => warn(rt, Warning::Network(address)),
+        _ => {}
     }
 }
 
@@ -169,16 +277,11 @@ pub fn warn_of_network<R: Eprint>(rt: &R, listener: &TcpListener) {
 pub fn warn_of<R: Files + AllocGlobal + Eprint>(
     system: &System<'_, R>,
     account: &Account,
-    passfile: Option<&str>,
+    passfile: &str,
 ) -> Result<(), AllocError> {
-    warn_of_login(system.rt, account);
-    if let Some(passfile) = passfile {
-        if is_others_too(system, passfile) {
-            warn(system.rt, Warning::OpenPassfile(passfile));
-        }
+    let found = look_around(system, account.maildir.as_str(), passfile)?;
+    for warning in warnings_of(system.alloc(), account, passfile, found)? {
+        warn(system.rt, warning);
     }
-    let maildir = account.maildir.as_str();
-    warn_of_owner(system, maildir);
-    warn_of_folder(system, maildir, "new")?;
-    warn_of_folder(system, maildir, "cur")
+    Ok(())
 }
