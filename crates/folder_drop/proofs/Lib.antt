@@ -1,3 +1,5 @@
 mod DigestLemmas
 mod MaildirLemmas
+mod RemovalLemmas
 mod SameOctetsLemmas
+mod SeenLemmas

@@ -1,7 +1,11 @@
 pub mod CountedSizes
+pub mod Finding
 pub mod FoldersLook
 pub mod Listing
 pub mod MaildirNames
+pub mod OpenFolder
+pub mod OpenText
 pub mod RealMaildir
 pub mod Removal
 pub mod SameOctets
+pub mod SeenFiles

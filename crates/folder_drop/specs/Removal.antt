@@ -1,11 +1,18 @@
 -- Which files are removed with a message: all with its base, if each is the listed file or has its octets; else none.
 use Rattle.std.specs.{
-  Prelude.{◌≡◌, ◌≢◌, ◌⊎◌, ◌<◌, ◌++◌, ◌∷◌, [], ℕ, true, false, List, length},
+  Prelude.{◌≡◌, ◌≢◌, ◌↔◌, ◌⊎◌, ◌<◌, ◌∷◌, ℕ, Bool, true, false, List, [], Option, None, Some, IsTrue, length},
+  String.string_bytes,
   List.{All, Contains, HoldsAt},
 }
-use Rattle.folder_drop.specs.declared.{
-  maildir_names.Stamp.Stamp,
-  removal.{FileNumber.FileNumber, Namesake.Namesake, Removal.{Removal, TheVariants.{Of, RefusedFor}}},
+use Rattle.folder_drop.specs.{
+  declared.{
+    listed_file.ListedFile.ListedFile,
+    mail_files.{FileNumber.FileNumber, FileWay.FileWay, Found.Found},
+    maildir_names.{PlacedFile.PlacedFile, Stamp.Stamp},
+    removal.{Namesake.Namesake, TwoMessages.TwoMessages},
+  },
+  RealMaildir.listed_name,
+  SameOctets.TellsSame,
 }
 
 -- the file is where the message was listed
@@ -30,16 +37,81 @@ IsListedAt files stamp i = (i < length files)
 abbrev pub NoneIsListed : List Namesake → Stamp → Type 0
 NoneIsListed files stamp = NoneIsInPlace files × All (λ (file : Namesake). file.stamp ≢ stamp) files
 
--- the file is the one of this number under some name, or has its octets
-abbrev pub GoesWith : FileNumber → Namesake → Type 0
-GoesWith number file = (file.number ≡ number) ⊎ (file.is_copy ≡ true)
+-- the file is in the place where the message was listed
+abbrev pub IsPlaceOf : ListedFile → PlacedFile → Type 0
+IsPlaceOf listed file = (listed.folder ≡ file.folder) × (listed_name listed ≡ string_bytes file.name)
 
--- the file is another one, and doesn't have its octets
-abbrev pub IsOtherFile : FileNumber → Namesake → Type 0
-IsOtherFile number file = (file.number ≢ number) × (file.is_copy ≡ false)
+-- a name leads to the place where the file was seen
+abbrev pub LeadsToPlace : FileWay → PlacedFile → Type 0
+LeadsToPlace way file = (way.folder ≡ file.folder) × (string_bytes way.name ≡ string_bytes file.name)
 
--- all the files with the base of the listed one go, and that one last; or none does, if one may be another message
-abbrev pub IsRemoval : Namesake → List Namesake → Removal → Type 0
-IsRemoval listed others (Of files) = (files.items ≡ others ++ listed ∷ []) × All (GoesWith listed.number) others
-IsRemoval listed others (RefusedFor one other) =
-    (one ≡ listed) × Contains others other × IsOtherFile listed.number other
+-- a file that was seen with a message's base was found there: a regular file, or else nothing that may be removed, not
+-- in the message's own place
+abbrev pub IsNamesake : (FileWay → Found → Type 0) → ListedFile → PlacedFile → Option Namesake → Type 0
+IsNamesake found listed seen (Some file) = LeadsToPlace file.file seen
+    × (IsTrue file.is_in_place ↔ IsPlaceOf listed seen)
+    × ((what : Found) × found file.file what × (what.is_regular ≡ true) × (file.number ≡ what.number)
+    × (file.stamp ≡ what.stamp))
+IsNamesake found listed seen None = (way : FileWay) × (other : Found) × LeadsToPlace way seen
+    × found way other × (other.is_regular ≡ false) × (IsPlaceOf listed seen → ⊥)
+
+-- of the files that were seen with a message's base, these are the regular ones, as they were found: each of these is
+-- one of them, and each of them is there or is nothing that may be removed
+pub record AreNamesakes (found : FileWay → Found → Type 0) (listed : ListedFile) (seen : List PlacedFile)
+    (files : List Namesake) : Type 0 where
+  pub only : All (λ (file : Namesake). (from : PlacedFile) × Contains seen from
+      × IsNamesake found listed from (Some file)) files
+  pub each : All (λ (from : PlacedFile). IsNamesake found listed from None
+      ⊎ ((file : Namesake) × Contains files file × IsNamesake found listed from (Some file))) seen
+
+abbrev pub if_any : Option Namesake → List Namesake
+if_any None = []
+if_any (Some file) = file ∷ []
+
+-- the file was opened, and has these octets left
+abbrev pub WasRead : {File : Type 0} → (File → Option (List ℕ)) → (FileWay → FileNumber → File → Type 0) → Namesake
+    → Option (List ℕ) → Type 0
+WasRead {File} remaining opened file octets = (handle : File) × opened file.file file.number handle
+    × (remaining handle ≡ octets)
+
+-- both files were read, and this is whether their octets are the same
+abbrev pub WereCompared : {File : Type 0} → (File → Option (List ℕ)) → (FileWay → FileNumber → File → Type 0) → Namesake
+    → Namesake → Bool → Type 0
+WereCompared remaining opened listed file same = (own : Option (List ℕ)) × (other : Option (List ℕ))
+    × WasRead remaining opened file own × WasRead remaining opened listed other × TellsSame own other same
+
+-- the file is the listed one under some name, or was read and has its octets
+abbrev pub MayGo : {File : Type 0} → (File → Option (List ℕ)) → (FileWay → FileNumber → File → Type 0) → Namesake
+    → Namesake → Type 0
+MayGo remaining opened listed file = (file.number ≡ listed.number) ⊎ WereCompared remaining opened listed file true
+
+-- the file is another one, and was read and doesn't have its octets
+abbrev pub IsOther : {File : Type 0} → (File → Option (List ℕ)) → (FileWay → FileNumber → File → Type 0) → Namesake
+    → Namesake → Type 0
+IsOther remaining opened listed file = (file.number ≢ listed.number) × WereCompared remaining opened listed file false
+
+-- all files go with the listed one, and are removed; or one of them is another message, which is told
+abbrev pub RemovesWith : {File : Type 0} → (File → Option (List ℕ)) → (FileWay → FileNumber → File → Type 0)
+    → (FileWay → FileNumber → Type 0) → Namesake → List Namesake → Option TwoMessages → Type 0
+RemovesWith remaining opened removed listed files None =
+    All (MayGo remaining opened listed) files × All (λ (file : Namesake). removed file.file file.number) files
+RemovesWith remaining opened removed listed files (Some two) = (string_bytes two.listed ≡ string_bytes listed.file.path)
+    × ((other : Namesake) × Contains files other × IsOther remaining opened listed other
+    × (string_bytes two.other ≡ string_bytes other.file.path))
+
+-- if the listed file isn't there, nothing is removed: one of the files is told, if there is any
+abbrev pub TellsInstead : List Namesake → Option TwoMessages → Type 0
+TellsInstead files None = files ≡ []
+TellsInstead files (Some two) = (other : Namesake) × Contains files other
+    × (string_bytes two.other ≡ string_bytes other.file.path)
+
+-- the files that were seen with a message's base were looked at; if the listed one is among them, all of them went with
+-- it, or one is another message; else one of them is told
+pub record RemovesSeen {File : Type 0} (remaining : File → Option (List ℕ)) (found : FileWay → Found → Type 0)
+    (opened : FileWay → FileNumber → File → Type 0) (removed : FileWay → FileNumber → Type 0) (listed : ListedFile)
+    (seen : List PlacedFile) (told : Option TwoMessages) : Type 0 where
+  pub files : List Namesake
+  pub are : AreNamesakes found listed seen files
+  pub gone : ((i : ℕ) × IsListedAt files listed.stamp i
+      × HoldsAt (λ own. RemovesWith remaining opened removed own files told) files i)
+      ⊎ (NoneIsListed files listed.stamp × TellsInstead files told)

@@ -1,9 +1,11 @@
 //! A maildrop for the server whose messages are the files of a Maildir in a real folder.
 #![tactic(auto)]
 
+mod finding;
 mod folders_look;
 mod listed_file;
 mod listing;
+mod mail_files;
 mod maildir_drop;
 mod maildir_folders;
 mod maildir_names;

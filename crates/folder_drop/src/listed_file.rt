@@ -1,13 +1,18 @@
 //! The files of a Maildir whose messages are listed, and their sizes as messages.
-ghost use Rattle.std.specs.{Fs.metadata_len, Prelude.{◌≡◌, ◌↔◌, IsTrue, IfSome}, String.string_bytes};
+ghost use Rattle.std.specs.{
+  Fs.metadata_len,
+  Prelude.{◌≡◌, ◌<◌, ◌↔◌, IfOk, IfSome, IsTrue, length},
+  String.string_bytes,
+};
 ghost use Rattle.mail_terms.specs.MaildirName.{base as base_of};
+ghost use Rattle.pop3_server.specs.Size.{capped, size_of};
 ghost use Rattle.folder_drop.specs.{CountedSizes.WasCounted, RealMaildir.listed_name};
 
 use crate::maildir_names::{Folder, PlacedFile, Stamp};
 use mail_terms::base;
 use pop3_server::SizeCount;
 use std::fs::Metadata;
-use std::io::{self, Read};
+use std::io::{self, ErrorKind, Read};
 use std::time::{Duration, UNIX_EPOCH};
 
 /// How many octets of a file are read at a time.
@@ -114,14 +119,17 @@ impl<'a> CountedSizes<'a> {
 }
 
 /// The size of a file as a message. The file is read in pieces to its end.
-pub fn count_size<F: Read>(file: &mut F, piece: &mut [u8]) -> io::Result<u64> {
+pub fn count_size<F: Read>(file: &mut F, piece: &mut [u8]) -> io::Result<u64>
+    requires { 0 < length piece.old }
+    ensures { IfOk result (λ size. IfSome (F.remaining file.old) (λ text. size ≡ capped (size_of text))) }
+{
     let mut count = SizeCount::new();
     for _ in 0..u64::MAX {
         let n = file.read(piece)?;
         if n == 0 {
-            break;
+            return Ok(count.size());
         }
         count.add(&piece[..n]);
     }
-    Ok(count.size())
+    Err(io::Error::from(ErrorKind::FileTooLarge))
 }

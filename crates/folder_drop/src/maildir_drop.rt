@@ -1,7 +1,8 @@
 //! A Maildir in a real folder as a maildrop: the files of `cur` and `new` whose names don't begin with
 //! a full stop. In the Maildir format a name stays the same up to its first colon; flags follow.
 ghost use Rattle.std.specs.{
-  Prelude.{◌≡◌, ◌≤◌, ◌<◌, ◌+◌, ◌^◌, length, map, vec_len, IfOk, IfErr, []},
+  IoError.error_kind,
+  Prelude.{◌≡◌, ◌≢◌, ◌≤◌, ◌<◌, ◌+◌, ◌^◌, length, map, vec_len, IfOk, IfErr, []},
   String.string_bytes,
 };
 ghost use Rattle.mail_terms.specs.{Distinct.AreDistinct, FailureCount.{Tallies, counted_up, refuses}};
@@ -141,6 +142,8 @@ impl<'a, R: Files + Clock + RandomSource + AllocGlobal + Clone + Drop> MaildirDr
     /// The fault for an error of the system: NoMemory if memory ran out; any other error is a
     /// refusal, which is counted.
     fn refuse(&mut self, error: io::Error) -> DropFault
+        ensures memory { error_kind error ≡ ErrorKind.OutOfMemory → result ≡ DropFault.NoMemory }
+        ensures other { error_kind error ≢ ErrorKind.OutOfMemory → result ≡ DropFault.Refused }
         ensures others { self.new ≡ record self.old { failures = self.new.failures } }
         ensures count { Tallies (is_drop_refusal result) self.old.failures self.new.failures }
     {

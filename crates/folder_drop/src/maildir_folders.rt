@@ -1,27 +1,19 @@
-//! The two folders of a Maildir whose files are messages, and where such a file is now: mail software
-//! moves files from `new` to `cur` and changes their flags while they are served.
-ghost use Rattle.std.specs.{Prelude.{◌≡◌, ℕ, List}, String.string_bytes};
+//! The two folders of a Maildir whose files are messages.
+ghost use Rattle.std.specs.{Prelude.{◌≡◌, ◌++◌, ℕ, List, OnOk, map}, String.string_bytes};
+ghost use Rattle.folder_drop.specs.SeenFiles.{folder_and_name};
 
 use crate::folders_look::FoldersLook;
-use crate::listed_file::{ListedFile, PIECE, count_size, stamp_of};
-use crate::maildir_names::{Folder, PlacedFile, Stamp};
-use crate::open_folder::{FileWay, OPEN_FILES, OpenFolder};
-use crate::removal::{FileNumber, Namesake, Removal, TwoMessages, listed_place, removal_of};
-use crate::seen_files::SeenFiles;
-use folder_store::{ChangeTime, HostFolders, ProcessMark, Sought, list_both};
-use mail_terms::base;
-use std::alloc::AllocError;
-use std::io::{self, BufReader, ErrorKind};
+use crate::mail_files::{FileNumber, FileWay, Found, MailFiles};
+use crate::maildir_names::{Folder, PlacedFile};
+use crate::open_folder::{OPEN_FILES, OpenFolder};
+use crate::removal::Namesake;
+use folder_store::{HostFolders, ProcessMark, Sought, list_both};
+use std::alloc::{AllocError, Global};
+use std::io::{self, ErrorKind};
 use std::marker::Model;
 use std::rt::Files;
 use std::time::Clock;
 use system_calls::{Noted, System};
-
-/// How many times a file is tried, if it has a new name each time.
-const MOST_TRIES: u32 = 10;
-
-/// Why a file isn't read.
-const BUSY: &str = "changes all the time";
 
 /// The folders `new` and `cur` of the Maildir at a path.
 #[derive(Drop)]
@@ -50,7 +42,10 @@ fn add_files(
     files: &mut Vec<PlacedFile>,
     folder: Folder,
     names: Vec<String>,
-) -> Result<(), AllocError> {
+) -> Result<(), AllocError>
+    ensures { OnOk result (map folder_and_name files.new.items
+        ≡ map folder_and_name files.old.items ++ map (λ name. (folder, string_bytes name)) names.items) }
+{
     for name in names {
         files.push(PlacedFile::of(folder, name))?;
     }
@@ -80,7 +75,7 @@ impl<'a, R: Files + Clock + AllocGlobal + Clone + Drop> MaildirFolders<'a, R> {
     fn open_folder(&self, folder: Folder) -> io::Result<OpenFolder<'a, R>> {
         let (path, name) = (self.path.as_str(), folder.name());
         let path = format!(in self.system.alloc(); "{path}/{name}")?;
-        OpenFolder::open(self.system, path)
+        OpenFolder::open(self.system, folder, path)
     }
 
     /// A folder that was opened. NotFound before the first look.
@@ -129,9 +124,9 @@ impl<'a, R: Files + Clock + AllocGlobal + Clone + Drop> MaildirFolders<'a, R> {
         refused
     }
 
-    /// The files of both folders at one moment, in order: each once, although others move files between
-    /// the two meanwhile. Refused if `new` changes all the time.
-    pub fn list(&self) -> io::Result<Vec<PlacedFile>> {
+    /// The names in both folders at one moment: each once, although others move files between the two meanwhile.
+    /// Refused if `new` changes all the time.
+    fn names(&self) -> io::Result<(Vec<String>, Vec<String>)> {
         let (in_new, in_cur) = (self.folder(Folder::New)?, self.folder(Folder::Cur)?);
         let mut folders = HostFolders::named(
             self.system,
@@ -144,6 +139,27 @@ impl<'a, R: Files + Clock + AllocGlobal + Clone + Drop> MaildirFolders<'a, R> {
         };
         in_new.check_place()?;
         in_cur.check_place()?;
+        Ok(names)
+    }
+}
+
+impl<'a, R: Files + Clock + AllocGlobal + Clone + Drop> MailFiles for MaildirFolders<'a, R> {
+    type File = Noted<'a, R::File>;
+
+    ghost told = { λ _ _. Unit {0} };
+
+    ghost found = { λ _ _ _. Unit {0} };
+
+    ghost opened = { λ _ _ _ _. Unit {0} };
+
+    ghost removed = { λ _ _ _. Unit {0} };
+
+    fn alloc(&self) -> Global {
+        self.system.alloc()
+    }
+
+    fn list(&self) -> io::Result<Vec<PlacedFile>> {
+        let names = self.names()?;
         let mut files = Vec::new(self.system.alloc());
         add_files(&mut files, Folder::New, names.0)?;
         add_files(&mut files, Folder::Cur, names.1)?;
@@ -151,217 +167,24 @@ impl<'a, R: Files + Clock + AllocGlobal + Clone + Drop> MaildirFolders<'a, R> {
         Ok(files)
     }
 
-    /// The place of a file that isn't at `tried` any more: where the last listing saw a file with its
-    /// base, else where a new listing does. None if no file has it.
-    fn place_now(
-        &self,
-        seen: &mut SeenFiles,
-        tried: (Folder, &str),
-    ) -> io::Result<Option<(Folder, String)>> {
-        let alloc = self.system.alloc();
-        let base = base(tried.1);
-        if let Some(file) = seen.with_base(base, 0) {
-            let name = file.name.as_str();
-            if (file.folder, name) != tried {
-                return Ok(Some((file.folder, String::from_str(alloc, name)?)));
-            }
-        }
-        seen.renew(self.list()?);
-        match seen.with_base(base, 0) {
-            Some(file) => {
-                let name = String::from_str(alloc, file.name.as_str())?;
-                Ok(Some((file.folder, name)))
-            }
-            None => Ok(None),
-        }
-    }
-
-    /// Does something with the file of this name in a folder, or if that is gone, with the one that has its base
-    /// now. None if no file has it.
-    fn reach<T: Drop, A: FnMut(&OpenFolder<'a, R>, &FileWay) -> io::Result<T>>(
-        &self,
-        seen: &mut SeenFiles,
-        place: (Folder, &str),
-        mut act: A,
-    ) -> io::Result<Option<T>>
-        requires { A.IsAlwaysCallable act }
-    {
-        let mut folder = place.0;
-        let mut name = String::from_str(self.system.alloc(), place.1)?;
-        for _ in 0..MOST_TRIES {
-            let open = self.folder(folder)?;
-            match act(open, &open.file(name.as_str())?) {
-                Ok(done) => return Ok(Some(done)),
-                Err(error) if error.kind() == ErrorKind::NotFound => {}
-                Err(error) => return Err(error),
-            }
-            match self.place_now(seen, (folder, name.as_str()))? {
-                Some(now) => (folder, name) = now,
-                None => return Ok(None),
-            }
-        }
-        Err(self.busy(folder, name.as_str()))
-    }
-
-    /// The error for a file that has a new name each time.
-    fn busy(&self, folder: Folder, name: &str) -> io::Error {
-        match self.file(folder, name) {
-            Ok(file) => self.system.refusals.refuse(file.into_path().as_str(), BUSY),
-            Err(error) => error,
-        }
-    }
-
-    /// What a name in a folder stands for.
-    fn file(&self, folder: Folder, name: &str) -> io::Result<FileWay> {
+    fn way(&self, folder: Folder, name: &str) -> io::Result<FileWay> {
         self.folder(folder)?.file(name)
     }
 
-    /// The stamp of a regular file. None if it isn't one, or is gone.
-    pub fn stamp(&self, seen: &mut SeenFiles, file: &PlacedFile) -> io::Result<Option<Stamp>> {
-        let place = (file.folder, file.name.as_str());
-        let told = self.reach(seen, place, |folder, file| folder.look_up(file))?;
-        match told {
-            Some(metadata) if metadata.is_file() => Ok(Some(stamp_of(&metadata))),
-            _ => Ok(None),
-        }
+    fn look_up(&self, file: &FileWay) -> io::Result<Found> {
+        self.folder(file.folder)?.look_up(file)
     }
 
-    /// Opens a regular file. None if it is gone.
-    pub fn open(
-        &self,
-        seen: &mut SeenFiles,
-        folder: Folder,
-        name: &str,
-    ) -> io::Result<Option<Noted<'a, R::File>>> {
-        self.reach(
-            seen,
-            (folder, name),
-            |folder, file| folder.open_regular(file),
-        )
+    fn open(&self, file: &FileWay, number: FileNumber) -> io::Result<Noted<'a, R::File>> {
+        self.folder(file.folder)?.open_file(file, number)
     }
 
-    /// A file with the base of a listed one, as it is now. None if it isn't a regular file; in the place of the
-    /// listed one that is refused. NotFound if it isn't where it was seen.
-    fn namesake(&self, file: &PlacedFile, listed: &ListedFile) -> io::Result<Option<Namesake>> {
-        let is_in_place = listed.is_same(file);
-        let folder = self.folder(file.folder)?;
-        let way = folder.file(file.name.as_str())?;
-        let found = folder.look_up(&way)?;
-        if found.is_file() {
-            return Ok(Some(Namesake {
-                folder: file.folder,
-                file: way,
-                number: FileNumber::of(&found),
-                stamp: stamp_of(&found),
-                is_in_place,
-                is_copy: false,
-            }));
-        }
-        if is_in_place {
-            return Err(folder.refuse_irregular(&way));
-        }
-        Ok(None)
+    fn remove(&self, file: &Namesake, _listed: &Namesake) -> io::Result<()> {
+        self.folder(file.file.folder)?
+            .remove(&file.file, file.number)
     }
 
-    /// The regular files that were seen with the base of a listed one, as they are now.
-    fn namesakes(&self, seen: &SeenFiles, listed: &ListedFile) -> io::Result<Vec<Namesake>> {
-        let mut files = Vec::new(self.system.alloc());
-        for place in 0..usize::MAX {
-            let Some(file) = seen.with_base(base(listed.name.as_str()), place) else {
-                break;
-            };
-            if let Some(file) = self.namesake(file, listed)? {
-                files.push(file)?;
-            }
-        }
-        Ok(files)
-    }
-
-    /// A file that is read piece by piece.
-    fn reader(&self, file: &Namesake) -> io::Result<BufReader<Noted<'a, R::File>>> {
-        let opened = self
-            .folder(file.folder)?
-            .open_file(&file.file, file.number)?;
-        BufReader::with_capacity(self.system.alloc(), PIECE, opened)
-    }
-
-    /// Notes which of the other files are copies of the listed one: another file, of the same octets.
-    fn compare(&self, listed: &Namesake, others: &mut [Namesake]) -> io::Result<()> {
-        for other in others {
-            if other.number != listed.number {
-                let mut own = self.reader(other)?;
-                other.note_copy(&mut own, &mut self.reader(listed)?)?;
-            }
-        }
-        Ok(())
-    }
-
-    /// Removes a file that was looked at. NotFound if it isn't where it was seen.
-    fn remove_file(&self, file: &Namesake) -> io::Result<()> {
-        self.folder(file.folder)?.remove(&file.file, file.number)
-    }
-
-    /// Removes a listed file, and before it those that go with it, from where they were seen. NotFound if one
-    /// isn't there.
-    fn remove_seen(
-        &self,
-        seen: &SeenFiles,
-        listed: &ListedFile,
-    ) -> io::Result<Option<TwoMessages>> {
-        let mut others = self.namesakes(seen, listed)?;
-        let Some(place) = listed_place(others.as_slice(), listed.stamp) else {
-            return match others.pop() {
-                Some(other) => Ok(Some(TwoMessages {
-                    listed: self.file(listed.folder, listed.name.as_str())?.into_path(),
-                    other: other.file.into_path(),
-                })),
-                None => Ok(None),
-            };
-        };
-        let listed = others.swap_remove(place);
-        self.compare(&listed, others.as_mut_slice())?;
-        match removal_of(listed, others)? {
-            Removal::Of(files) => {
-                for file in files {
-                    self.remove_file(&file)?;
-                }
-                Ok(None)
-            }
-            Removal::RefusedFor(listed, other) => Ok(Some(TwoMessages {
-                listed: listed.file.into_path(),
-                other: other.file.into_path(),
-            })),
-        }
-    }
-
-    /// Removes a listed file and those that go with it. One that is gone already counts as removed. If a file
-    /// with its base is another message, none is removed, and that one is returned with it.
-    pub fn remove(
-        &self,
-        seen: &mut SeenFiles,
-        listed: &ListedFile,
-    ) -> io::Result<Option<TwoMessages>> {
-        for _ in 0..MOST_TRIES {
-            match self.remove_seen(seen, listed) {
-                Err(error) if error.kind() == ErrorKind::NotFound => {}
-                answer => return answer,
-            }
-            seen.renew(self.list()?);
-        }
-        Err(self.busy(listed.folder, listed.name.as_str()))
-    }
-
-    /// The size of a file as a message; the file is read in pieces. None if it is gone.
-    pub fn size(
-        &self,
-        seen: &mut SeenFiles,
-        folder: Folder,
-        name: &str,
-        piece: &mut [u8],
-    ) -> io::Result<Option<u64>> {
-        let Some(mut file) = self.open(seen, folder, name)? else {
-            return Ok(None);
-        };
-        Ok(Some(count_size(&mut file, piece)?))
+    fn refuse(&self, file: &FileWay, words: &str) -> io::Error {
+        self.system.refusals.refuse(file.path.as_str(), words)
     }
 }

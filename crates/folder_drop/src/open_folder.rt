@@ -1,10 +1,16 @@
 //! An open folder of a Maildir. Its files are looked at, opened and removed in it, whatever its path leads to by then.
-ghost use Rattle.std.specs.Prelude.{◌≡◌};
+ghost use Rattle.std.specs.{
+  Fs.{new_options, with_append, with_read},
+  Prelude.{◌≡◌, true, IfOk, IfSome, string_bytes},
+};
+ghost use Rattle.folder_drop.specs.OpenFolder.{way_to, LeadsThrough};
 
-use crate::removal::FileNumber;
+use crate::mail_files::{FileNumber, FileWay, Found};
+use crate::maildir_names::Folder;
 use folder_store::ChangeTime;
+use std::alloc::{AllocError, Global};
 use std::fs;
-use std::fs::{Metadata, OpenFile, OpenOptions};
+use std::fs::{OpenFile, OpenOptions};
 use std::io::{self, ErrorKind};
 use std::rt::Files;
 use system_calls::{Noted, System};
@@ -12,9 +18,7 @@ use system_calls::{Noted, System};
 /// Where a process finds what it has open, by the number of its descriptor.
 pub const OPEN_FILES: &str = "/proc/self/fd";
 
-/// Why a file or a folder isn't used.
-const NOT_REGULAR: &str = "not a regular file";
-
+/// Why a folder isn't used.
 const REPLACED: &str = "another folder is in its place";
 
 /// What the system knows an open folder by. It is closed with this.
@@ -33,29 +37,13 @@ impl Drop for Descriptor {
 #[derive(Drop)]
 pub struct OpenFolder<'a, R> {
     system: &'a System<'a, R>,
+    folder: Folder,
     /// Its path, by which it is named.
     path: String,
     descriptor: Descriptor,
     /// The descriptor's name in `OPEN_FILES`.
     number_text: String,
     number: FileNumber,
-}
-
-/// What a name in an open folder stands for.
-#[derive(Drop)]
-pub struct FileWay {
-    name: String,
-    /// Its path, by which it is named.
-    path: String,
-    /// A path that leads to it through the open folder.
-    way: String,
-}
-
-impl FileWay {
-    /// Its path.
-    pub fn into_path(self) -> String {
-        self.path
-    }
 }
 
 /// Whether this process may open the files of all users.
@@ -81,23 +69,37 @@ fn open_descriptor<R: AllocGlobal>(system: &System<'_, R>, path: &str) -> io::Re
     Ok(Descriptor { number })
 }
 
+/// A path that leads to the open folder of this descriptor, whatever is put in its place.
+fn way_to(alloc: Global, number: &str) -> Result<String, AllocError>
+    ensures { IfOk result (λ way. string_bytes way ≡ way_to number.now) }
+{
+    format!(in alloc; "{OPEN_FILES}/{number}")
+}
+
 /// How a file is opened to be read. A named pipe may be put in its place after it was looked at: opened to be read and
 /// written, that isn't waited for. Only the superuser may write each file.
-fn reading() -> OpenOptions {
+fn reading(is_superuser: bool) -> OpenOptions
+    ensures { result ≡ with_append (with_read new_options true) is_superuser }
+{
     let mut how = OpenOptions::new();
-    how.read(true).append(is_superuser());
+    how.read(true).append(is_superuser);
     how
 }
 
 impl<'a, R: Files + AllocGlobal> OpenFolder<'a, R> {
     /// Opens the folder at a path.
-    pub fn open(system: &'a System<'a, R>, path: String) -> io::Result<OpenFolder<'a, R>> {
+    pub fn open(
+        system: &'a System<'a, R>,
+        folder: Folder,
+        path: String,
+    ) -> io::Result<OpenFolder<'a, R>> {
         let descriptor = open_descriptor(system, path.as_str())?;
         let number_text = format!(in system.alloc(); "{}", descriptor.number)?;
-        let way = format!(in system.alloc(); "{OPEN_FILES}/{number_text}")?;
+        let way = way_to(system.alloc(), number_text.as_str())?;
         let found = system.refusals.kept(system.stat(way.as_str()))?;
         Ok(OpenFolder {
             system,
+            folder,
             path,
             descriptor,
             number_text,
@@ -106,21 +108,21 @@ impl<'a, R: Files + AllocGlobal> OpenFolder<'a, R> {
     }
 
     /// The name of its descriptor in `OPEN_FILES`.
-    pub fn number_text(&self) -> &str {
+    pub fn number_text(&self) -> &str
+        ensures { result.now ≡ string_bytes self.now.number_text }
+    {
         self.number_text.as_str()
     }
 
-    /// A path that leads to it whatever is put in its place.
-    fn way(&self) -> io::Result<String> {
-        let number = self.number_text.as_str();
-        Ok(format!(in self.system.alloc(); "{OPEN_FILES}/{number}")?)
-    }
-
     /// What a name in it stands for. The calls for that need no more memory.
-    pub fn file(&self, name: &str) -> io::Result<FileWay> {
+    pub fn file(&self, name: &str) -> io::Result<FileWay>
+        ensures { IfOk result (LeadsThrough self.now.folder (string_bytes self.now.path)
+            (string_bytes self.now.number_text) name.now) }
+    {
         let alloc = self.system.alloc();
         let (path, number) = (self.path.as_str(), self.number_text.as_str());
         Ok(FileWay {
+            folder: self.folder,
             name: String::from_str(alloc, name)?,
             path: format!(in alloc; "{path}/{name}")?,
             way: format!(in alloc; "{OPEN_FILES}/{number}/{name}")?,
@@ -128,8 +130,11 @@ impl<'a, R: Files + AllocGlobal> OpenFolder<'a, R> {
     }
 
     /// Its path, if a call for this one was refused, and that leads to it.
-    pub fn path_for(&self, refused: &str) -> Option<&str> {
-        match self.way() {
+    pub fn path_for(&self, refused: &str) -> Option<&str>
+        ensures { IfSome result (λ path. (path.now ≡ string_bytes self.now.path)
+            × (refused.now ≡ way_to (string_bytes self.now.number_text))) }
+    {
+        match way_to(self.system.alloc(), self.number_text.as_str()) {
             Ok(way) if way.as_str() == refused => Some(self.path.as_str()),
             _ => None,
         }
@@ -137,7 +142,8 @@ impl<'a, R: Files + AllocGlobal> OpenFolder<'a, R> {
 
     /// When it was last changed.
     pub fn change(&self) -> io::Result<ChangeTime> {
-        let found = fs::metadata(self.system.rt, self.way()?.as_str());
+        let way = way_to(self.system.alloc(), self.number_text.as_str())?;
+        let found = fs::metadata(self.system.rt, way.as_str());
         let found = self
             .system
             .refusals
@@ -157,48 +163,24 @@ impl<'a, R: Files + AllocGlobal> OpenFolder<'a, R> {
         Err(self.system.refusals.refuse(self.path.as_str(), REPLACED))
     }
 
-    /// The error for what a name stands for, with the reason.
-    pub fn refuse(&self, file: &FileWay, words: &str) -> io::Error {
-        self.system.refusals.refuse(file.path.as_str(), words)
-    }
-
-    /// The error for a name that stands for no regular file.
-    pub fn refuse_irregular(&self, file: &FileWay) -> io::Error {
-        self.refuse(file, NOT_REGULAR)
-    }
-
     fn noted<T>(&self, call: &str, file: &FileWay, answer: io::Result<T>) -> io::Result<T>
         ensures { result ≡ answer }
     {
         self.system.refusals.noted(call, file.path.as_str(), answer)
     }
 
-    /// The metadata of what a name stands for. That it stands for nothing isn't noted.
-    pub fn look_up(&self, file: &FileWay) -> io::Result<Metadata> {
-        match fs::symlink_metadata(self.system.rt, file.way.as_str()) {
-            Err(error) if error.kind() == ErrorKind::NotFound => Err(error),
-            answer => self.noted("lstat", file, answer),
-        }
-    }
-
-    /// Opens a regular file.
-    pub fn open_regular(&self, file: &FileWay) -> io::Result<Noted<'a, R::File>> {
-        let found = self.look_up(file)?;
-        if !found.is_file() {
-            return Err(self.refuse_irregular(file));
-        }
-        self.open_seen(file, FileNumber::of(&found))
-    }
-
-    /// Opens the regular file of this number. NotFound if something else has its name by now.
-    pub fn open_file(&self, file: &FileWay, number: FileNumber) -> io::Result<Noted<'a, R::File>> {
-        number.check(&self.look_up(file)?)?;
-        self.open_seen(file, number)
+    /// What bears a name. That nothing does isn't noted.
+    pub fn look_up(&self, file: &FileWay) -> io::Result<Found> {
+        let found = match fs::symlink_metadata(self.system.rt, file.way.as_str()) {
+            Err(error) if error.kind() == ErrorKind::NotFound => return Err(error),
+            answer => self.noted("lstat", file, answer)?,
+        };
+        Ok(Found::of(&found))
     }
 
     /// Removes the regular file of this number. NotFound if something else has its name by now.
     pub fn remove(&self, file: &FileWay, number: FileNumber) -> io::Result<()> {
-        number.check(&self.look_up(file)?)?;
+        self.look_up(file)?.check(number)?;
         let answer = if os::unlink_at(self.descriptor.number, file.name.as_bytes()) < 0 {
             Err(last_error())
         } else {
@@ -207,10 +189,11 @@ impl<'a, R: Files + AllocGlobal> OpenFolder<'a, R> {
         self.noted("unlink", file, answer)
     }
 
-    /// Opens a file that was just looked at. NotFound if it is another one by then.
-    fn open_seen(&self, file: &FileWay, number: FileNumber) -> io::Result<Noted<'a, R::File>> {
+    /// Opens the regular file of this number. NotFound if something else has its name by now, or once it is open.
+    pub fn open_file(&self, file: &FileWay, number: FileNumber) -> io::Result<Noted<'a, R::File>> {
+        self.look_up(file)?.check(number)?;
         let way = file.way.as_str();
-        let opened = match reading().open(self.system.rt, way) {
+        let opened = match reading(is_superuser()).open(self.system.rt, way) {
             // Nobody puts a pipe there.
             Err(error) if error.kind() == ErrorKind::ReadOnlyFilesystem => {
                 fs::open(self.system.rt, way)
@@ -223,7 +206,7 @@ impl<'a, R: Files + AllocGlobal> OpenFolder<'a, R> {
             file.path.as_str(),
             self.system.refusals,
         );
-        number.check(&opened.metadata()?)?;
+        Found::of(&opened.metadata()?).check(number)?;
         Ok(opened)
     }
 }

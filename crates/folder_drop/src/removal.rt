@@ -1,58 +1,37 @@
-//! Which files are removed with a message.
+//! Which files are removed with a message, and removing them.
 ghost use Rattle.std.specs.{
-  Prelude.{◌≡◌, ◌≢◌, ◌<◌, length, true, false, IfOk, IfSome, IfNone, OnOk},
+  Prelude.{◌≡◌, ◌≢◌, ◌++◌, ◌<◌, List, true, false, length, string_bytes, IfOk, IfSome, IfNone, OnOk},
   List.{All, HoldsAt},
 };
+ghost use Rattle.mail_terms.specs.MaildirName.{base as base_of};
 ghost use Rattle.folder_drop.specs.{
-  declared.removal.Namesake.Namesake,
-  Removal.{GoesWith, HasStamp, IsInPlace, IsListedAt, IsOtherFile, IsRemoval, NoneIsInPlace, NoneIsListed},
-  SameOctets.TellsSame,
+  declared.{maildir_names.PlacedFile.PlacedFile, removal.Namesake.Namesake},
+  Removal.{AreNamesakes, HasStamp, IsInPlace, IsListedAt, IsNamesake, IsOther, MayGo, NoneIsInPlace, NoneIsListed},
+  Removal.{RemovesSeen, RemovesWith, TellsInstead, WasRead, if_any},
+  RealMaildir.listed_name,
+  SeenFiles.{HaveBase, WereSeen},
 };
 
-use crate::maildir_names::{Folder, Stamp};
-use crate::open_folder::FileWay;
+use crate::finding::{MOST_TRIES, busy};
+use crate::listed_file::{ListedFile, PIECE};
+use crate::mail_files::{FileNumber, FileWay, MailFiles};
+use crate::maildir_names::{PlacedFile, Stamp};
 use crate::same_octets::have_same_octets;
-use std::alloc::AllocError;
-use std::fs::Metadata;
-use std::io::{self, BufRead, ErrorKind};
-use std::os::unix::fs::MetadataExt;
+use crate::seen_files::SeenFiles;
+use std::alloc::{AllocError, Global};
+use std::io::{self, BufReader, ErrorKind, Read};
 
-/// Which file it is: its device, and its number there. All names of a file have the same.
-#[derive(Clone, Copy, PartialEq, Eq)]
-pub struct FileNumber {
-    device: u64,
-    inode: u64,
-}
-
-impl FileNumber {
-    /// The number of the file that the system reports this of.
-    pub fn of(metadata: &Metadata) -> FileNumber {
-        FileNumber {
-            device: metadata.dev(),
-            inode: metadata.ino(),
-        }
-    }
-
-    /// NotFound if the system reports this of something else than the regular file of this number.
-    pub fn check(self, metadata: &Metadata) -> io::Result<()> {
-        if metadata.is_file() && FileNumber::of(metadata) == self {
-            return Ok(());
-        }
-        Err(io::Error::from(ErrorKind::NotFound))
-    }
-}
+/// Why what is in the place of a listed file isn't removed.
+pub const NOT_REGULAR: &str = "not a regular file";
 
 /// A regular file whose name has the base of a message that is to be removed.
 #[derive(Drop)]
 pub struct Namesake {
-    pub folder: Folder,
     pub file: FileWay,
     pub number: FileNumber,
     pub stamp: Stamp,
     /// Whether it is where the message was listed.
     pub is_in_place: bool,
-    /// Whether it is another file than the listed one, with the same octets.
-    pub is_copy: bool,
 }
 
 /// Two files with one base that are different messages: the path where one was listed, and that of the other.
@@ -60,39 +39,6 @@ pub struct Namesake {
 pub struct TwoMessages {
     pub listed: String,
     pub other: String,
-}
-
-/// What is removed with a message.
-#[derive(Drop)]
-pub enum Removal {
-    /// These files, in this order.
-    Of(Vec<Namesake>),
-    /// None, since the second file may be another message than the first one, which was listed.
-    RefusedFor(Namesake, Namesake),
-}
-
-impl Namesake {
-    /// Notes whether it is a copy of the listed file. Both are read.
-    pub fn note_copy<F: BufRead, G: BufRead>(
-        &mut self,
-        own: &mut F,
-        listed: &mut G,
-    ) -> io::Result<()>
-        ensures copy { OnOk result
-            (TellsSame (F.Read.remaining own.old) (G.Read.remaining listed.old) self.new.is_copy) }
-        ensures others { self.new ≡ record self.old { is_copy = self.new.is_copy } }
-    {
-        self.is_copy = have_same_octets(own, listed)?;
-        Ok(())
-    }
-
-    /// Whether it goes with the listed file, which has this number.
-    fn goes_with(&self, listed: FileNumber) -> bool
-        ensures goes { result ≡ true → GoesWith listed self.now }
-        ensures stays { result ≡ false → IsOtherFile listed self.now }
-    {
-        self.number == listed || self.is_copy
-    }
 }
 
 /// The place of the file that is where the message was listed.
@@ -133,33 +79,250 @@ pub fn listed_place(files: &[Namesake], stamp: Stamp) -> Option<usize>
     }
 }
 
-/// The place of a file that may be another message than the listed one, which has this number.
-fn place_of_other(listed: FileNumber, files: &[Namesake]) -> Option<usize>
-    ensures found { IfSome result (λ i. (i < length files.now) × HoldsAt (IsOtherFile listed) files.now i) }
-    ensures none { IfNone result (All (GoesWith listed) files.now) }
+/// A file with the base of a listed one, as it is now. None if it isn't a regular file; in the place of the
+/// listed one that is refused. NotFound if it isn't where it was seen.
+fn look_at<D: MailFiles>(
+    files: &D,
+    file: &PlacedFile,
+    listed: &ListedFile,
+) -> io::Result<Option<Namesake>>
+    ensures { IfOk result (IsNamesake (D.found files.now) listed.now file.now) }
 {
-    for (place, file) in files.iter().enumerate() {
-        if !file.goes_with(listed) {
-            return Some(place);
-        }
+    let is_in_place = listed.is_same(file);
+    let way = files.way(file.folder, file.name.as_str())?;
+    let found = files.look_up(&way)?;
+    if found.is_regular {
+        return Ok(Some(Namesake {
+            file: way,
+            number: found.number,
+            stamp: found.stamp,
+            is_in_place,
+        }));
     }
-    None
+    if is_in_place {
+        return Err(files.refuse(&way, NOT_REGULAR));
+    }
+    Ok(None)
 }
 
-/// What is removed with a message, if these are the others with its base: all, the listed one last, so that it stays
-/// if one of them can't be removed; or none, if one may be another message.
-pub fn removal_of(listed: Namesake, others: Vec<Namesake>) -> Result<Removal, AllocError>
-    ensures { IfOk result (IsRemoval listed others.items) }
+/// Adds a file, if there is one.
+fn add(files: &mut Vec<Namesake>, file: Option<Namesake>) -> Result<(), AllocError>
+    ensures { OnOk result (files.new.items ≡ files.old.items ++ if_any file) }
 {
-    let mut others = others;
-    match place_of_other(listed.number, others.as_slice()) {
-        Some(place) => {
-            let other = others.swap_remove(place);
-            Ok(Removal::RefusedFor(listed, other))
-        }
-        None => {
-            others.push(listed)?;
-            Ok(Removal::Of(others))
+    let Some(file) = file else {
+        return Ok(());
+    };
+    files.push(file)?;
+    Ok(())
+}
+
+/// The regular files that were seen with the base of a listed one, as they are now.
+fn look_at_all<D: MailFiles>(
+    files: &D,
+    seen: &[PlacedFile],
+    listed: &ListedFile,
+) -> io::Result<Vec<Namesake>>
+    ensures { IfOk result (λ found. AreNamesakes (D.found files.now) listed.now seen.now found.items) }
+{
+    let mut found = Vec::new(files.alloc());
+    for file in seen {
+        let namesake = look_at(files, file, listed)?;
+        add(&mut found, namesake)?;
+    }
+    Ok(found)
+}
+
+/// A file that is read piece by piece.
+fn reader<D: MailFiles>(files: &D, file: &Namesake) -> io::Result<BufReader<D::File>>
+    ensures { IfOk result (λ reader. WasRead D.File.remaining (D.opened files.now) file.now
+        (⟦<BufReader<D::File> as Read>⟧.remaining reader)) }
+{
+    let opened = files.open(&file.file, file.number)?;
+    let reader = BufReader::with_capacity(files.alloc(), PIECE, opened)?;
+    Ok(reader)
+}
+
+/// Whether a file goes with the listed one: it is that file, maybe under another name, or has the same octets.
+fn goes_with<D: MailFiles>(files: &D, file: &Namesake, listed: &Namesake) -> io::Result<bool>
+    ensures goes { IfOk result (λ goes. goes ≡ true
+        → MayGo D.File.remaining (D.opened files.now) listed.now file.now) }
+    ensures stays { IfOk result (λ goes. goes ≡ false
+        → IsOther D.File.remaining (D.opened files.now) listed.now file.now) }
+{
+    if file.number == listed.number {
+        return Ok(true);
+    }
+    let mut own = reader(files, file)?;
+    let mut other = reader(files, listed)?;
+    let same = have_same_octets(&mut own, &mut other)?;
+    Ok(same)
+}
+
+/// The place of a file that is another message than the listed one.
+fn place_of_other<D: MailFiles>(
+    files: &D,
+    others: &[Namesake],
+    listed: &Namesake,
+) -> io::Result<Option<usize>>
+    ensures found { IfOk result (λ place. IfSome place (λ i. (i < length others.now)
+        × HoldsAt (IsOther D.File.remaining (D.opened files.now) listed.now) others.now i)) }
+    ensures none { IfOk result (λ place. IfNone place
+        (All (MayGo D.File.remaining (D.opened files.now) listed.now) others.now)) }
+{
+    for (place, file) in others.iter().enumerate() {
+        let goes = goes_with(files, file, listed)?;
+        if !goes {
+            return Ok(Some(place));
         }
     }
+    Ok(None)
+}
+
+/// Removes a file that may go with the listed one, unless it is that one.
+fn remove_copy<D: MailFiles>(files: &D, file: &Namesake, listed: &Namesake) -> io::Result<()>
+    requires { MayGo D.File.remaining (D.opened files.now) listed.now file.now }
+    ensures { OnOk result (file.now.number ≢ listed.now.number
+        → D.removed files.now file.now.file file.now.number) }
+{
+    if file.number == listed.number {
+        return Ok(());
+    }
+    files.remove(file, listed)?;
+    Ok(())
+}
+
+/// Removes a file that may go with the listed one, if it is that one.
+fn remove_own<D: MailFiles>(files: &D, file: &Namesake, listed: &Namesake) -> io::Result<()>
+    requires { MayGo D.File.remaining (D.opened files.now) listed.now file.now }
+    ensures { OnOk result (file.now.number ≡ listed.now.number
+        → D.removed files.now file.now.file file.now.number) }
+{
+    if file.number != listed.number {
+        return Ok(());
+    }
+    files.remove(file, listed)?;
+    Ok(())
+}
+
+/// Removes those of these files that are copies of the listed one.
+fn remove_copies<D: MailFiles>(files: &D, all: &[Namesake], listed: &Namesake) -> io::Result<()>
+    requires { All (MayGo D.File.remaining (D.opened files.now) listed.now) all.now }
+    ensures { OnOk result (All (λ file. file.number ≢ listed.now.number
+        → D.removed files.now file.file file.number) all.now) }
+{
+    for file in all {
+        remove_copy(files, file, listed)?;
+    }
+    Ok(())
+}
+
+/// Removes those of these files that are the listed one.
+fn remove_names<D: MailFiles>(files: &D, all: &[Namesake], listed: &Namesake) -> io::Result<()>
+    requires { All (MayGo D.File.remaining (D.opened files.now) listed.now) all.now }
+    ensures { OnOk result (All (λ file. file.number ≡ listed.now.number
+        → D.removed files.now file.file file.number) all.now) }
+{
+    for file in all {
+        remove_own(files, file, listed)?;
+    }
+    Ok(())
+}
+
+/// Removes these files, each of which may go with the listed one, and that one last, so that it stays if one of the
+/// others can't be removed.
+fn remove_all<D: MailFiles>(files: &D, all: &[Namesake], listed: &Namesake) -> io::Result<()>
+    requires { All (MayGo D.File.remaining (D.opened files.now) listed.now) all.now }
+    ensures { OnOk result (All (λ file. D.removed files.now file.file file.number) all.now) }
+{
+    remove_copies(files, all, listed)?;
+    remove_names(files, all, listed)?;
+    Ok(())
+}
+
+/// The paths of a listed file and of another message's file.
+fn two_messages(alloc: Global, listed: &str, other: &Namesake) -> Result<TwoMessages, AllocError>
+    ensures { IfOk result (λ two. (string_bytes two.listed ≡ listed.now)
+        × (string_bytes two.other ≡ string_bytes other.now.file.path)) }
+{
+    Ok(TwoMessages {
+        listed: String::from_str(alloc, listed)?,
+        other: String::from_str(alloc, other.file.path.as_str())?,
+    })
+}
+
+/// Removes a listed file, one of all these, with the others. If one of them is another message, none is removed, and
+/// both are told.
+fn remove_with<D: MailFiles>(
+    files: &D,
+    all: &[Namesake],
+    listed: &Namesake,
+) -> io::Result<Option<TwoMessages>>
+    ensures { IfOk result (RemovesWith D.File.remaining (D.opened files.now) (D.removed files.now) listed.now all.now) }
+{
+    let Some(place) = place_of_other(files, all, listed)? else {
+        remove_all(files, all, listed)?;
+        return Ok(None);
+    };
+    let listed = listed.file.path.as_str();
+    let two = two_messages(files.alloc(), listed, &all[place])?;
+    Ok(Some(two))
+}
+
+/// If a listed file is gone: a file that has its base and is another message, if there is one.
+fn instead<D: MailFiles>(
+    files: &D,
+    all: &[Namesake],
+    listed: &ListedFile,
+) -> io::Result<Option<TwoMessages>>
+    ensures { IfOk result (TellsInstead all.now) }
+{
+    if all.is_empty() {
+        return Ok(None);
+    }
+    let way = files.way(listed.folder, listed.name.as_str())?;
+    let two = two_messages(files.alloc(), way.path.as_str(), &all[0])?;
+    Ok(Some(two))
+}
+
+/// Removes a listed file, and before it those that go with it, from where they were seen. NotFound if one
+/// isn't there.
+fn remove_seen<D: MailFiles>(
+    files: &D,
+    seen: &[PlacedFile],
+    listed: &ListedFile,
+) -> io::Result<Option<TwoMessages>>
+    ensures { IfOk result (RemovesSeen D.File.remaining (D.found files.now) (D.opened files.now) (D.removed files.now)
+        listed.now seen.now) }
+{
+    let found = look_at_all(files, seen, listed)?;
+    let all = found.as_slice();
+    let Some(place) = listed_place(all, listed.stamp) else {
+        let told = instead(files, all, listed)?;
+        return Ok(told);
+    };
+    let told = remove_with(files, all, &all[place])?;
+    Ok(told)
+}
+
+/// Removes a listed file and those that go with it. One that is gone already counts as removed. If a file
+/// with its base is another message, none is removed, and that one is returned with it.
+pub fn remove<D: MailFiles>(
+    files: &D,
+    seen: &mut SeenFiles,
+    listed: &ListedFile,
+) -> io::Result<Option<TwoMessages>>
+    ensures { IfOk result (λ told. (from : List PlacedFile) × (these : List PlacedFile)
+        × WereSeen (D.told files.now) seen.old from × HaveBase (base_of (listed_name listed.now)) from these
+        × RemovesSeen D.File.remaining (D.found files.now) (D.opened files.now) (D.removed files.now) listed.now these
+        told) }
+{
+    for _ in 0..MOST_TRIES {
+        match remove_seen(files, seen.with_base(listed.base()), listed) {
+            Ok(told) => return Ok(told),
+            Err(error) if error.kind() == ErrorKind::NotFound => {}
+            Err(error) => return Err(error),
+        }
+        seen.renew(files.list()?);
+    }
+    Err(busy(files, listed.folder, listed.name.as_str()))
 }

@@ -1,11 +1,35 @@
 //! Where the files of a Maildir were last seen, for those that aren't where they were listed.
 ghost use Rattle.std.specs.{
-  Prelude.{◌≡◌, ◌&&◌, if◌then◌else◌, None, Some, false, not, true, is_some, IfSome},
-  String.string_bytes,
+  List.{AllWithin, HoldsAt},
+  Prelude.{◌≡◌, ◌≢◌, ◌≤◌, ◌<◌, ◌&&◌, if◌then◌else◌, None, Some, false, length, not, true, is_some, IfNone, IfSome},
 };
-ghost use Rattle.mail_terms.specs.MaildirName.{base as base_of};
+ghost use Rattle.folder_drop.specs.SeenFiles.{base_of_file, those_seen, NoneHasBase, HaveBase};
 
 use crate::maildir_names::PlacedFile;
+
+/// How many files have this base before the first that hasn't.
+fn count_with(files: &[PlacedFile], base: &str) -> usize
+    ensures within { result ≤ length files.now }
+    ensures have { AllWithin (λ file. base_of_file file ≡ base.now) files.now 0 result }
+    ensures stops { result < length files.now → HoldsAt (λ file. base_of_file file ≢ base.now) files.now result }
+{
+    for (i, file) in files.iter().enumerate() {
+        if file.base() != base {
+            return i;
+        }
+    }
+    files.len()
+}
+
+/// Those of files in order that have this base.
+fn with_base_among<'a>(files: &'a [PlacedFile], base: &str) -> &'a [PlacedFile]
+    ensures { HaveBase base.now files.now result.now }
+{
+    let start = files.partition_point(|file| file.base() < base);
+    let rest = &files[start..];
+    let count = count_with(rest, base);
+    &rest[..count]
+}
 
 /// The files that were seen when one was last looked for.
 #[derive(Drop)]
@@ -34,19 +58,29 @@ impl SeenFiles {
         self.files = Some(files);
     }
 
-    /// A file that was seen with this base, in their order: the first one at 0.
-    pub fn with_base(&self, base: &str, place: usize) -> Option<&PlacedFile>
-        ensures { IfSome result (λ file. base_of (string_bytes file.now.name) ≡ base.now) }
+    /// The files that were seen, in their order. None before the first look.
+    fn files(&self) -> &[PlacedFile]
+        ensures { result.now ≡ those_seen self.now.files }
     {
-        let files = match &self.files {
+        match &self.files {
             Some(files) => files.as_slice(),
-            None => return None,
-        };
-        let i = files.partition_point(|file| file.base() < base);
-        match files.get(i.saturating_add(place)) {
-            Some(file) if file.base() == base => Some(file),
-            _ => None,
+            None => &[],
         }
+    }
+
+    /// The files that were seen with this base, in their order.
+    pub fn with_base(&self, base: &str) -> &[PlacedFile]
+        ensures { HaveBase base.now (those_seen self.now.files) result.now }
+    {
+        with_base_among(self.files(), base)
+    }
+
+    /// The first file that was seen with this base.
+    pub fn first_with(&self, base: &str) -> Option<&PlacedFile>
+        ensures found { IfSome result (λ file. base_of_file file.now ≡ base.now) }
+        ensures none { IfNone result (NoneHasBase base.now (those_seen self.now.files)) }
+    {
+        self.with_base(base).first()
     }
 
     /// Forgets what was seen before the removals of a session: one look is enough for all of them. Returns whether

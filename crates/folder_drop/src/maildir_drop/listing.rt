@@ -1,15 +1,17 @@
 //! How a Maildir is listed: the files that are found, and the messages that they are.
-ghost use Rattle.std.specs.Prelude.{◌≡◌, ◌≤◌, map, vec_len, IfOk, IfSome, OnErr};
+ghost use Rattle.std.specs.Prelude.{◌≡◌, ◌≤◌, map, vec_len, IfOk, OnErr};
 ghost use Rattle.mail_terms.specs.Distinct.{AreDistinct};
 ghost use Rattle.folder_drop.specs.RealMaildir.{uid_of, HaveIds};
 
+use crate::finding;
 use crate::folders_look::FoldersLook;
 use crate::listed_file::{CountedSizes, ListedFile, PIECE};
 use crate::listing::{DropListing, ListedFiles};
+use crate::mail_files::MailFiles;
 use crate::maildir_drop::MaildirDrop;
-use crate::maildir_names::{PlacedFile, Stamp, long_id};
+use crate::maildir_names::long_id;
 use crate::seen_files::SeenFiles;
-use pop3_server::{Entry, MAX_COUNT, MAX_SIZE};
+use pop3_server::{Entry, MAX_COUNT};
 use std::hash::RandomState;
 use std::random::RandomSource;
 use std::rt::Files;
@@ -17,34 +19,6 @@ use std::time::Clock;
 use std::{io, mem};
 
 impl<'a, R: Files + Clock + RandomSource + AllocGlobal + Clone + Drop> MaildirDrop<'a, R> {
-    /// A file's size as a message; the file is read if that isn't known. None if it is above the limit, or if
-    /// the file is gone.
-    fn size(
-        &self,
-        last_seen: &mut SeenFiles,
-        file: &PlacedFile,
-        stamp: Stamp,
-        known: Option<u64>,
-        piece: &mut [u8],
-    ) -> io::Result<Option<u64>>
-        ensures within { IfOk result (λ found. IfSome found (λ size. size ≤ MAX_SIZE)) }
-    {
-        // The size is at least the length.
-        if stamp.length > MAX_SIZE {
-            return Ok(None);
-        }
-        let size = match known {
-            Some(size) => Some(size),
-            None => self
-                .folders
-                .size(last_seen, file.folder, file.name.as_str(), piece)?,
-        };
-        match size {
-            Some(size) if size <= MAX_SIZE => Ok(Some(size)),
-            _ => Ok(None),
-        }
-    }
-
     /// The files of the Maildir as it is now: only the first of several with the same id, none above the
     /// limits, and none that is gone.
     fn list(&self, last_seen: &mut SeenFiles, look: FoldersLook) -> io::Result<DropListing>
@@ -56,7 +30,8 @@ impl<'a, R: Files + Clock + RandomSource + AllocGlobal + Clone + Drop> MaildirDr
         let hasher = RandomState::new(self.system.rt)?;
         let mut listed = ListedFiles::with_capacity(alloc, found.len(), hasher)?;
         let mut counted = CountedSizes::new(self.earlier.files());
-        let mut piece = Vec::from_elem(alloc, 0u8, PIECE)?;
+        let mut room = Vec::from_elem(alloc, 0u8, PIECE)?;
+        let piece = room.as_mut_slice();
         for file in found {
             if listed.is_full() {
                 break;
@@ -66,11 +41,17 @@ impl<'a, R: Files + Clock + RandomSource + AllocGlobal + Clone + Drop> MaildirDr
             if !listed.admit(base, &long_id) {
                 continue;
             }
-            let Some(stamp) = self.folders.stamp(last_seen, &file)? else {
+            let Some(stamp) = finding::stamp(&self.folders, last_seen, &file)? else {
                 continue;
             };
             let known = counted.size_of(&file, stamp);
-            let size = self.size(last_seen, &file, stamp, known, piece.as_mut_slice())?;
+            let size = finding::size_within(
+                &self.folders,
+                last_seen,
+                &file,
+                (stamp, known),
+                piece,
+            )?;
             let Some(size) = size else {
                 continue;
             };

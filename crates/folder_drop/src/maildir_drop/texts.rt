@@ -1,7 +1,11 @@
 //! The texts of a Maildir's messages: their files read, whole or in parts, and removed.
-ghost use Rattle.std.specs.Prelude.{◌≡◌, ◌≤◌, ◌<◌, ◌+◌, ◌^◌, length, IfOk, IfSome, Some};
+ghost use Rattle.std.specs.{IoError.error_kind, Prelude.{◌≡◌, ◌≤◌, ◌<◌, ◌+◌, ◌^◌, length, IfOk, IfSome, Some}};
+ghost use Rattle.folder_drop.specs.OpenText.{ReadsOn};
 
+use crate::finding::open;
+use crate::mail_files::MailFiles;
 use crate::maildir_drop::{MaildirDrop, OpenText};
+use crate::removal::remove;
 use std::io::{self, ErrorKind, Read, Seek, SeekFrom};
 use std::random::RandomSource;
 use std::rt::Files;
@@ -20,8 +24,34 @@ fn going_on<F: Drop>(kept: Option<OpenText<F>>, place: usize, start: usize) -> O
     }
 }
 
+/// Reads on in a file. It isn't kept once its end is read.
+fn read_on<F: Read + Drop>(
+    text: OpenText<F>,
+    piece: &mut [u8],
+) -> io::Result<(usize, Option<OpenText<F>>)>
+    ensures within { IfOk result (λ read. read.0 ≤ length piece.new) }
+    ensures countable { IfOk result (λ read. text.read + read.0 < 2 ^ 64) }
+    ensures on { IfOk result (λ read. ReadsOn F.remaining text piece.new read.0 read.1) }
+{
+    let OpenText {
+        place,
+        read,
+        mut file,
+    } = text;
+    let n = file.read(piece)?;
+    if n == 0 {
+        return Ok((0, None));
+    }
+    let Some(read) = read.checked_add(n) else {
+        return Err(io::Error::from(ErrorKind::FileTooLarge));
+    };
+    Ok((n, Some(OpenText { place, read, file })))
+}
+
 /// The error for a file that isn't there.
-fn missing() -> io::Error {
+fn missing() -> io::Error
+    ensures { error_kind result ≡ ErrorKind.NotFound }
+{
     io::Error::from(ErrorKind::NotFound)
 }
 
@@ -34,7 +64,7 @@ impl<'a, R: Files + Clock + RandomSource + AllocGlobal + Clone + Drop> MaildirDr
             return Err(missing());
         };
         let name = listed.name.as_str();
-        match self.folders.open(&mut self.last_seen, listed.folder, name)? {
+        match open(&self.folders, &mut self.last_seen, listed.folder, name)? {
             Some(file) => Ok(file),
             None => Err(missing()),
         }
@@ -96,15 +126,8 @@ impl<'a, R: Files + Clock + RandomSource + AllocGlobal + Clone + Drop> MaildirDr
         ensures within { IfOk result (λ n. n ≤ length piece.new) }
         ensures countable { IfOk result (λ n. start + n < 2 ^ 64) }
     {
-        let mut text = self.text_at(i, start)?;
-        let n = text.file.read(piece)?;
-        let Some(read) = start.checked_add(n) else {
-            return Err(io::Error::from(ErrorKind::FileTooLarge));
-        };
-        if n > 0 {
-            text.read = read;
-            self.open = Some(text);
-        }
+        let (n, left) = read_on(self.text_at(i, start)?, piece)?;
+        self.open = left;
         Ok(n)
     }
 
@@ -123,7 +146,7 @@ impl<'a, R: Files + Clock + RandomSource + AllocGlobal + Clone + Drop> MaildirDr
         if !self.last_seen.tells_all() {
             return Err(missing());
         }
-        match self.folders.remove(&mut self.last_seen, listed)? {
+        match remove(&self.folders, &mut self.last_seen, listed)? {
             None => Ok(()),
             Some(two) => {
                 self.not_removed.push(two)?;
