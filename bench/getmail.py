@@ -9,7 +9,7 @@ file 1.3 times the largest message in addition.
 
 Then polls of 20,000 known messages, none of them new: known by the record alone, or also held in the Maildir. To be
 reached: 30 ms of processor time, and no faster growth than n log n from 5,000 on. And with 1,000,000 rows of other days in
-the record: 60 MiB.
+the record: 75 MiB.
 """
 
 import filecmp
@@ -43,8 +43,13 @@ FEW, MANY = 5_000, 20_000
 MANY_MESSAGES = 1_000
 MOST_POLL = 0.030
 OLD_ROWS = 1_000_000
-MOST_OLD_MEMORY = 60 * measure.MEBIBYTE
+MOST_OLD_MEMORY = 75 * measure.MEBIBYTE
 SHAPES = (("2,000 of 2 KB", 2000, 2_000), ("20 of 5 MB", 20, 5_000_000), ("one of 100 MB", 1, 100_000_000))
+
+
+def uid_of(number):
+    """An id of 16 octets, as dovecot gives them."""
+    return b"%08x5f3b8c21" % number
 
 
 def fresh_maildir(path):
@@ -58,7 +63,7 @@ def make_served(folder, count, octets):
     maildir = fresh_maildir(folder / "served")
     (folder / "password").write_bytes(b"sesame\n")
     for number in range(count):
-        (maildir / "new" / f"{number:06}").write_bytes(LETTER_LINE * (octets // len(LETTER_LINE)))
+        (maildir / "new" / uid_of(number).decode()).write_bytes(LETTER_LINE * (octets // len(LETTER_LINE)))
 
 
 class Service:
@@ -166,10 +171,6 @@ def speed_of(costs, count, octets):
     return f"{count / seconds:,.0f} a second" if count >= MANY_MESSAGES else f"{octets / seconds / 1e6:,.0f} MB/s"
 
 
-def uid_of(number):
-    return b"uid-%032d" % number
-
-
 class Listings:
     """A server that lists `count` messages, with prepared replies, to one client after the other."""
 
@@ -226,7 +227,7 @@ def measure_old_rows(folder):
     words = account_knowing(folder, Listings(MANY), MANY, False)
     record, = (folder / "account").glob("seen-*")
     with record.open("ab") as file:
-        file.writelines(b"old-%032d 1700000000 1\n" % number for number in range(OLD_ROWS))
+        file.writelines(b"%08x47e1d3a0 1600000000 1\n" % number for number in range(OLD_ROWS))
     costs = [measure.cost_of(words, wait=measure.watch) for _ in range(TURNS)]
     memory = max(cost.memory for cost in costs)
     measure.print_row(f"and {OLD_ROWS:,} rows of other days", f"{min(cost.processor for cost in costs) * 1000:.0f} ms", "",

@@ -1,26 +1,31 @@
 #!/usr/bin/env python3
-"""Benchmark of `getmail` beside mpop, if that is installed, in one run and in turns, mpop with pipelining off.
+"""Benchmark of `getmail` beside mpop, if that is installed, in one run and in turns, mpop with pipelining off. All ids have
+16 octets.
 
 Polls of 20,000 and 100,000 known messages, none of them new: known by the record alone, or also held in the Maildir
 (mpop looks into no Maildir). To be reached: at most mpop's processor time and memory, and a growth from
 20,000 to 100,000 that is linear within a tenth.
 
 Then a poll with one new message, which is fetched, where 20,000 are known and held, and where 20 are beside 500,000 files
-of others. To be reached: at most 1.3 times mpop's processor time and 6 MiB, and 4 MiB beside the others.
+of others. To be reached: at most 1.1 times mpop's processor time and 6 MiB; beside the others 4 MiB, and 1.5 times the
+processor time of a program in C that only reads the folder.
 
-Then what both remember of 20,000 messages with ids of 16 octets, once `getmail` has fetched them and looked once more. To be
-reached: at most 36 octets a message.
+Then what both remember of 20,000 messages, once `getmail` has fetched them and looked once more. To be reached: at most 36
+octets a message.
 
 Then fetches of 2,000, 20,000 and 100,000 messages of 400 octets and of one of 100 MB from `popd` into a Maildir in memory
-(the tmpfs at /dev/shm), where no disk's waits count. To be reached: at most 1.1, 1.17, 1.24 and 0.37 times mpop's processor
-time, and for 100,000 1.2 times its memory. And the first poll after a fetch of 20,000 and of 100,000: at most 1.1 times.
+(the tmpfs at /dev/shm), where no disk's waits count. To be reached: at most 1.1 times mpop's processor time, 0.37 for the one
+of 100 MB, and for 100,000 1.2 times its memory. And the first poll after a fetch of 20,000 and of 100,000: at most 1.1 times
+its processor time, and its memory. And sessions that fetch one message of 20,000 and of 100,000 that are new: the growth of
+what comes before it is linear within a tenth.
 
 Each time is the least of its turns, and the first turn's stands beside it. Words choose parts: polls new record fetches
-first slow.
+first growth slow pipelining latency.
 
-Then a fetch where each flush takes 5 ms, as on a slow disk: a library made here and preloaded waits in `fsync` and
-`fdatasync`. It has no mark: three flushes a message are the price of the promise. Last, if strace is installed, the calls of
-the system of a poll of 200 held messages and of one message more that is fetched, and how many of them are flushes.
+Then fetches without a mark: where each flush takes 5 ms, as on a slow disk (a library made here and preloaded waits in `fsync`
+and `fdatasync`; three flushes a message are the price of the promise); beside mpop as it comes, with pipelining, from dovecot;
+and the same by a relay with round trips of 20 to 100 ms. Last, if strace is installed, the calls of the system of a poll of 200
+held messages and of one message more that is fetched, and how many of them are flushes.
 """
 
 import contextlib
@@ -33,9 +38,11 @@ import sys
 import tempfile
 from pathlib import Path
 
+import dovecot
 import measure
 from harness.kernel import LOOPBACK
 from harness.maildir import make_maildir
+from relay import Relay
 
 # By its path, since its name is also that of a package of the tests.
 SPEC = importlib.util.spec_from_file_location("fetching", Path(__file__).with_name("getmail.py"))
@@ -49,10 +56,11 @@ POLLS = (20_000, 100_000)
 OCTETS = 400
 GREAT = 100_000_000
 # So many messages of so many octets, and the mark of the processor time.
-FETCHES = {(2_000, OCTETS): 1.1, (20_000, OCTETS): 1.17, (MANY, OCTETS): 1.24, (1, GREAT): 0.37}
+FETCHES = {(2_000, OCTETS): 1.1, (20_000, OCTETS): 1.1, (MANY, OCTETS): 1.1, (1, GREAT): 0.37}
 MOST_FETCH_MEMORY = 1.2
 MOST_FIRST = 1.1
-MOST_NEW = 1.3
+MOST_NEW = 1.1
+MOST_OF_READING = 1.5
 # For so many messages known and so many files of others.
 MOST_NEW_MEMORY = {(20_000, 0): 6 * measure.MEBIBYTE, (20, 500_000): 4 * measure.MEBIBYTE}
 REMEMBERED = 20_000
@@ -60,6 +68,15 @@ MOST_REMEMBERED = 36
 MOST_MEMORY = 1.0
 MOST_GROWTH = 1.1
 SLOWED = 200
+ROUND_TRIPS = (0.02, 0.05, 0.1)
+READ_FOLDER = """\
+#include <dirent.h>
+int main(int count, char **words) {
+    DIR *folder = opendir(words[count - 1]);
+    while (folder && readdir(folder)) {}
+    return !folder;
+}
+"""
 SLOW_FLUSHES = """\
 #include <unistd.h>
 int fsync(int descriptor) { (void)descriptor; return usleep(5000); }
@@ -70,22 +87,21 @@ FEW, MORE = 10, 110
 CALL = re.compile(r"(\w+)\(")
 MPOP = ["mpop", "--file=/dev/null", "--user=u", "--passwordeval=echo sesame", "--tls=off", "--auth=user", "--quiet",
         "--received-header=off", "--pipelining=off", "--keep=on", "--only-new=on"]
+PIPELINED = [word for word in MPOP if word != "--pipelining=off"]
 
 
 class Letters(ours.Listings):
     """A server that lists messages and gives each of them, one empty line, so that mpop gets to know them."""
 
-    def __init__(self, count, uid_of=ours.uid_of):
+    def __init__(self, count):
         super().__init__(count)
-        rows = (b"%d %s\r\n" % (number, uid_of(number)) for number in range(1, count + 1))
-        self.replies[b"UIDL"] = b"+OK\r\n" + b"".join(rows) + b".\r\n"
         self.replies[b"CAPA"] = b"-ERR\r\n"
         self.replies.update({b"RETR %d" % number: b"+OK\r\n\r\n.\r\n" for number in range(1, count + 1)})
 
 
-def mpop_at(folder, port):
+def mpop_at(folder, port, words=MPOP):
     """The words of a run of mpop into a Maildir of the folder."""
-    return [*MPOP, f"--host={LOOPBACK}", f"--port={port}", f"--delivery=maildir,{folder}/mpop", f"--uidls-file={folder}/uidls"]
+    return [*words, f"--host={LOOPBACK}", f"--port={port}", f"--delivery=maildir,{folder}/mpop", f"--uidls-file={folder}/uidls"]
 
 
 def known_to_mpop(folder, server):
@@ -183,7 +199,20 @@ def measure_new(folder, known, others):
     if len(os.listdir(folder / "mpop" / "new")) != 1 or measure.cost_of(again(words)) and len(os.listdir(mail / "new")) != 1:
         sys.exit("the new message wasn't fetched")
     ratio, _ = print_costs(f"one new among {known:,} held" + (f", beside {others:,} other files" if others else ""), *costs)
-    return (others > 0 or ratio <= MOST_NEW) and greatest_memory(costs[0]) <= MOST_NEW_MEMORY[known, others]
+    most = MOST_NEW
+    if others:
+        reading = measure_reading(folder, mail / "cur")
+        ratio, most = least(costs[0]) / reading, MOST_OF_READING
+        print(f"{ratio:.2f} times the {reading * 1000:.0f} ms of a program in C that reads the folder", flush=True)
+    return ratio <= most and greatest_memory(costs[0]) <= MOST_NEW_MEMORY[known, others]
+
+
+def measure_reading(folder, listed):
+    """The least processor time in which a program in C reads the names of a folder."""
+    source, program = folder / "read_folder.c", folder / "read_folder"
+    source.write_text(READ_FOLDER)
+    subprocess.run(["cc", "-O2", "-o", program, source], check=True)
+    return least([measure.cost_of([program, listed]) for _ in range(TURNS)])
 
 
 def measure_first_poll(folder, count, service):
@@ -199,13 +228,33 @@ def measure_first_poll(folder, count, service):
             return words
 
         costs = in_turns(lambda: again(words), lambda: again(theirs))
-    ratio, _ = print_costs(f"first poll after {count:,}", *costs)
-    return ratio <= MOST_FIRST
+    ratio, memory = print_costs(f"first poll after {count:,}", *costs)
+    return ratio <= MOST_FIRST and memory <= MOST_MEMORY
+
+
+def measure_growth(folder):
+    """Sessions that fetch one message of those that are listed; answers whether the mark was reached."""
+    times = []
+    for count in POLLS:
+        server = Letters(count)
+
+        def limited(server=server):
+            words = ours.account_at(folder, server.port)
+            with open(folder / "account" / "getmailrc", "a") as rc:
+                rc.write("max_messages_per_session = 1\n")
+            return words
+
+        costs = [measure.cost_of(limited(), wait=measure.watch) for _ in range(TURNS)]
+        times.append(least(costs))
+        measure.print_row(f"{count:,}", time_of(costs), f"{greatest_memory(costs) / measure.MEBIBYTE:.1f} MiB")
+    growth = times[1] / times[0] / (POLLS[1] / POLLS[0])
+    print(f"growth of a message's time from {POLLS[0]:,} to {POLLS[1]:,}: {growth:.2f}", flush=True)
+    return growth <= MOST_GROWTH
 
 
 def measure_records(folder):
-    """What both remember of a message with an id of 16 octets; answers whether the mark was reached."""
-    server = Letters(REMEMBERED, uid_of=lambda number: b"%08x5f3b8c21" % number)
+    """What both remember of a message; answers whether the mark was reached."""
+    server = Letters(REMEMBERED)
     words = ours.account_at(folder, server.port)
     for _ in range(2):
         measure.cost_of(words)
@@ -216,12 +265,12 @@ def measure_records(folder):
     return octets <= MOST_REMEMBERED
 
 
-def fresh_mpop(folder, port):
+def fresh_mpop(folder, port, words=MPOP):
     """The words of a first run of mpop."""
     shutil.rmtree(folder / "mpop", ignore_errors=True)
     (folder / "uidls").unlink(missing_ok=True)
     make_maildir(folder / "mpop")
-    return mpop_at(folder, port)
+    return mpop_at(folder, port, words)
 
 
 @contextlib.contextmanager
@@ -276,6 +325,33 @@ def measure_slow_flushes(folder):
     measure.print_row(f"{SLOWED}", f"{seconds:.2f} s", f"{theirs:.2f} s", f"{seconds / theirs:.2f}")
 
 
+@contextlib.contextmanager
+def pipelining_server(folder, count):
+    """Dovecot over `count` messages: it tells that commands may be sent ahead of their answers."""
+    ours.make_served(folder, count, OCTETS)
+    with tempfile.TemporaryDirectory() as room, dovecot.Dovecot(room, shutil.copytree(folder / "served", Path(room) / "served")) as server:
+        yield server
+
+
+def measure_pipelining(folder):
+    """Fetches beside mpop as it comes, which have no mark."""
+    for count in (2_000, 20_000):
+        with pipelining_server(folder, count) as server:
+            costs = in_turns(lambda: ours.account_at(folder, server.port), lambda: fresh_mpop(folder, server.port, PIPELINED))
+        print_costs(f"{count:,}", *costs)
+
+
+def measure_latency(folder):
+    """Fetches over long lines, by the clock, which have no mark."""
+    with pipelining_server(folder, SLOWED) as server:
+        for round_trip in ROUND_TRIPS:
+            with Relay(server.port, round_trip) as relay:
+                own, *theirs = (measure.cost_of(words).seconds for words in (
+                    ours.account_at(folder, relay.port), fresh_mpop(folder, relay.port), fresh_mpop(folder, relay.port, PIPELINED)))
+            measure.print_row(f"{SLOWED}, {round_trip * 1000:.0f} ms", f"{own:.1f} s",
+                              *(cell for other in theirs for cell in (f"{other:.1f} s", f"{own / other:.2f}")))
+
+
 def calls_of(folder, words):
     """How many calls of the system a run makes, without those of its children, and how many of them are flushes."""
     note = folder / "calls"
@@ -306,7 +382,10 @@ def parts(disk, memory):
         "record": (("record", "octets a message", "mpop's", "ratio"), lambda: measure_records(memory)),
         "fetches": (("fetch on tmpfs", *head), lambda: measure_fetches(memory)),
         "first": (("poll", *head), lambda: measure_first_polls(memory)),
+        "growth": (("listed, one fetched", "processor time (the first)", "peak of memory"), lambda: measure_growth(memory)),
         "slow": (("fetch, 5 ms a flush", "by the clock", "mpop's", "ratio"), lambda: measure_slow_flushes(memory)),
+        "pipelining": (("fetch beside mpop with pipelining", *head), lambda: measure_pipelining(memory)),
+        "latency": (("fetch, a round trip", "by the clock", "mpop's", "ratio", "with pipelining", "ratio"), lambda: measure_latency(memory)),
     }
 
 

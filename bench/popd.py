@@ -33,6 +33,10 @@ SECONDS = 60
 SETTLED_SECONDS = 4
 SECONDS_BETWEEN_LOGINS = 0.3
 MOST_MEMORY = 8 * measure.MEBIBYTE
+# Messages of logins, of dovecot's memory, and how much more a message may take among many than among few.
+LOGINS = 20_000, 100_000
+MOST_OF_MEMORY = 1.0
+MOST_GROWTH = 1.1
 LETTER_HEAD = b"From: Ada <ada@example.org>\nSubject: a letter\n\n"
 LETTER_LINE = b"A line of a common length, as a letter to somebody has them.\n"
 PREPARED_SERVER = Path(__file__).with_name("prepared_server.py")
@@ -129,7 +133,7 @@ def wait_until(holds):
 
 
 def make_maildir(folder, count, octets):
-    """A Maildir of `count` messages of about `octets` octets each."""
+    """A Maildir of `count` messages of about `octets` octets each, with names of 40 octets."""
     maildir = Path(folder) / f"Maildir-{count}"
     for part in ("tmp", "new", "cur"):
         (maildir / part).mkdir(parents=True)
@@ -137,7 +141,7 @@ def make_maildir(folder, count, octets):
     password.write_bytes(b"sesame\n")
     password.chmod(0o600)
     for number in range(count):
-        (maildir / "new" / f"{number:06}").write_bytes(LETTER_HEAD + LETTER_LINE * (octets // len(LETTER_LINE)))
+        (maildir / "new" / f"1700000000.M{number:06}P1234.mail.example.org").write_bytes(LETTER_HEAD + LETTER_LINE * (octets // len(LETTER_LINE)))
     return maildir
 
 
@@ -297,8 +301,8 @@ def print_logins(name, server, logins):
     return costs
 
 
-def measure_logins(folder, name, count, most_memory):
-    """Logins to `popd` and to dovecot over the same files: their processor times, and the peaks of memory."""
+def measure_logins(folder, name, count):
+    """Logins to `popd` and to dovecot over the same files: their processor times, and the peaks of memory; `popd`'s costs."""
     maildir = make_maildir(folder, count, 400)
     time.sleep(SETTLED_SECONDS)
     with Popd(maildir) as ours:
@@ -306,12 +310,21 @@ def measure_logins(folder, name, count, most_memory):
     measure.print_head("messages", "server", "first login", "later", "peak of memory")
     mine = print_logins(name, "`popd`", our_logins)
     if not dovecot.is_there():
-        return
+        return mine
     with dovecot.Dovecot(folder, maildir) as theirs:
         logins = [log_in_and_list(theirs) for _ in range(VISITS)]
     first, later, memory = (a / b for a, b in zip(mine, print_logins("", "dovecot", logins)))
     print(f"  {name}: of dovecot's processor time at the first login {first:.2f}, at later ones {later:.2f}, of its peak of "
-          f"memory {memory:.2f} ({measure.verdict(memory <= most_memory)})", flush=True)
+          f"memory {memory:.2f} ({measure.verdict(memory <= MOST_OF_MEMORY)})", flush=True)
+    return mine
+
+
+def measure_growth(folders):
+    """Logins to Maildirs of 20,000 and of 100,000 messages, and how the time of a message grows."""
+    costs = [measure_logins(folder, f"{count:,} of 400 octets", count) for folder, count in zip(folders, LOGINS)]
+    growths = [many / few / (LOGINS[1] / LOGINS[0]) for few, many in zip(*(cost[:2] for cost in costs))]
+    print(f"  growth of a message's processor time from {LOGINS[0]:,} to {LOGINS[1]:,}: at the first login {growths[0]:.2f}, at "
+          f"later ones {growths[1]:.2f} ({measure.verdict(max(growths) <= MOST_GROWTH)})", flush=True)
 
 
 def peak_for(maildir, command):
@@ -371,9 +384,8 @@ def main():
     for name, count, octets in (("2,000 of 2 KB", 2_000, 2_000), ("20,000 of 2 KB", 20_000, 2_000), ("20 of 5 MB", 20, 5_000_000)):
         with tempfile.TemporaryDirectory() as folder:
             measure_beside_dovecot(folder, name, count, octets)
-    for name, count, most_memory in (("20,000 of 400 octets", 20_000, 1.0), ("100,000 of 400 octets", 100_000, 1.3)):
-        with tempfile.TemporaryDirectory() as folder:
-            measure_logins(folder, name, count, most_memory)
+    with tempfile.TemporaryDirectory() as few, tempfile.TemporaryDirectory() as many:
+        measure_growth((few, many))
     with tempfile.TemporaryDirectory() as folder:
         measure_greatest(folder)
     with tempfile.TemporaryDirectory() as folder:
