@@ -3,6 +3,7 @@ pub mod CommandLine
 pub mod Connecting
 pub mod Failures
 pub mod InPlace
+pub mod Listed
 pub mod Lock
 pub mod NoSetup
 pub mod Output

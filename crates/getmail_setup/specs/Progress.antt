@@ -1,10 +1,16 @@
--- What the line of progress says.
+-- What the line of progress says, and when it is shown.
 use Rattle.std.specs.{
-  Prelude.{◌/◌, ◌%◌, ◌==◌, ℕ, List, [], Option, Some, ◌++◌, codes, min, nat_lt, if◌then◌else◌},
+  Prelude.{◌≡◌, ◌⊎◌, ◌+◌, ◌-◌, ◌/◌, ◌%◌, ◌^◌, ◌==◌, ◌&&◌, ℕ, Bool, false, List, [], ◌∷◌, ◌++◌, codes},
+  Prelude.{Err, None, Ok, Option, Some, Result, length, min, nat_le, nat_lt, slice_get, unwrap_or, if◌then◌else◌},
   Fmt.decimal,
 }
-use Rattle.pop3_wire.specs.declared.note.Asked.{Asked, TheVariants.Retr}
-use Rattle.getmail_setup.specs.declared.progress.Progress.{Progress}
+use Rattle.pop3_wire.specs.{
+  Fields.number_and_size,
+  declared.fault.WireFault.WireFault,
+  declared.note.Asked.{Asked, TheVariants.{Stat, Uidl, List as ListAsked, Retr}},
+  declared.note.Note.{Note, TheVariants.{Command, Count, Body}},
+}
+use Rattle.getmail_setup.specs.{Listed.without_end, declared.progress.Progress.Progress}
 
 -- a number of tenths: with a digit after the point below ten
 abbrev pub in_tenths : ℕ → List ℕ
@@ -30,3 +36,72 @@ text_for asked p = codes "listed " ++ (decimal (p.rows / 2) ++ (codes " of " ++ 
 
 abbrev pub progress_text : Progress → List ℕ
 progress_text p = text_for p.asked p
+
+-- nothing is known of a fetch
+pub record KnowsNothing (p : Progress) : Type 0 where
+  pub total : p.total ≡ 0
+  pub rows : p.rows ≡ 0
+  pub sizes : p.sizes.items ≡ []
+  pub size : p.size ≡ 0
+  pub octets : p.octets ≡ 0
+  pub due : p.due ≡ 0
+  pub asked : p.asked ≡ None
+
+-- the size in a row of LIST, if that is the next one after so many
+abbrev pub size_after : ℕ → Result (ℕ × ℕ) WireFault → Option ℕ
+size_after known (Ok (number, size)) = if known + 1 == number then Some size else None
+size_after known (Err fault) = None
+
+abbrev pub next_size : ℕ → List ℕ → Option ℕ
+next_size known row = size_after known (number_and_size (without_end row))
+
+-- that size was added, if there was memory for it
+abbrev pub HasAdded : Option ℕ → Progress → Progress → Type 0
+HasAdded None old new = new ≡ old
+HasAdded (Some size) old new = (new ≡ record old { sizes = new.sizes })
+    × ((new.sizes.items ≡ old.sizes.items ++ (size ∷ [])) ⊎ (new.sizes.items ≡ old.sizes.items))
+
+abbrev pub HasNextSize : Progress → List ℕ → Progress → Type 0
+HasNextSize old row new = HasAdded (next_size (length old.sizes.items) row) old new
+
+-- the size of the message that is asked for; 0 if it isn't known
+abbrev pub size_for : List ℕ → Option Asked → ℕ
+size_for sizes (Some (Retr number)) =
+    if nat_lt 0 number then unwrap_or (slice_get sizes (number - 1)) 0 else 0
+size_for sizes asked = 0
+
+abbrev pub with_octets : Progress → ℕ → Progress
+with_octets p octets = record p { octets = min (p.octets + octets) (2 ^ 64 - 1) }
+
+abbrev pub with_row : Progress → Progress
+with_row p = record p { rows = min (p.rows + 1) (2 ^ 32 - 1) }
+
+-- a part of a body came, which is a row if a listing was asked for
+abbrev pub HasTaken : Progress → Option Asked → List ℕ → ℕ → Progress → Type 0
+HasTaken old (Some Uidl) text octets new = new ≡ with_row (with_octets old octets)
+HasTaken old (Some ListAsked) text octets new = HasNextSize (with_row (with_octets old octets)) text new
+HasTaken old asked text octets new = new ≡ with_octets old octets
+
+-- a part of a conversation was noted
+abbrev pub NotesProgress : Progress → Note → Progress → Type 0
+NotesProgress old (Command asked line) new =
+    new ≡ record old { size = size_for old.sizes.items asked; asked = asked; octets = 0; due = 0 }
+NotesProgress old (Count total) new = new ≡ record old { total = total }
+NotesProgress old (Body text octets ended) new = HasTaken old old.asked text.now octets new
+NotesProgress old part new = new ≡ old
+
+-- of a thousand messages and more each thousand rows are shown
+abbrev pub is_due_row : Progress → Bool
+is_due_row p = nat_le 1000 p.total && p.rows % 1000 == 0
+
+abbrev pub is_due_line : Progress → Option Asked → Bool
+is_due_line p (Some Stat) = is_due_row p
+is_due_line p (Some Uidl) = is_due_row p
+is_due_line p (Some ListAsked) = is_due_row p
+is_due_line p (Some (Retr number)) = nat_le p.due p.octets
+is_due_line p asked = false
+
+-- of a message each 65,536 octets are
+abbrev pub due_after : Progress → Option Asked → ℕ
+due_after p (Some (Retr number)) = if nat_le p.due p.octets then min (p.octets + 65536) (2 ^ 64 - 1) else p.due
+due_after p asked = p.due

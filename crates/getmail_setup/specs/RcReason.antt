@@ -1,6 +1,7 @@
 -- The reason of a fault of an rc file, or of the flags. Of the file it has at most the number of a line.
 use Rattle.std.specs.{
-  Prelude.{◌≡◌, ◌&&◌, ◌==◌, ◌++◌, ℕ, Bool, nat_eq, List, [], ◌∷◌, codes, if◌then◌else◌, Option, Some, None},
+  Prelude.{◌≡◌, ◌&&◌, ◌==◌, ◌++◌, ℕ, Bool, nat_eq, List, [], ◌∷◌, codes},
+  Prelude.{None, Option, Some, if◌then◌else◌},
   Fmt.decimal,
   Ffi.without_last,
   List.starts_with,
@@ -83,7 +84,13 @@ known_reason words bytes fault = None
 abbrev pub IsPathReason : List ℕ → List ℕ → Type 0
 IsPathReason path reason = (line : List ℕ) × IsTraceLine [] path line × (reason ≡ without_last line)
 
--- that reason, or else the file's path
-abbrev pub IsReason : List ℕ → Option (List ℕ) → List ℕ → Type 0
-IsReason path (Some text) reason = reason ≡ text
-IsReason path None reason = IsPathReason path reason
+-- a reason after that
+abbrev pub IsAfterPath : List ℕ → List ℕ → List ℕ → Type 0
+IsAfterPath path reason text =
+    (shown : List ℕ) × IsPathReason path shown × (text ≡ shown ++ (codes ": " ++ reason))
+
+-- what tells of a fault: the file's path, and after it the reason, if one is known; of flags the reason alone
+abbrev pub IsReasonFor : List ℕ → RcFault → Option (List ℕ) → List ℕ → Type 0
+IsReasonFor path fault None text = IsPathReason path text
+IsReasonFor path Contradiction (Some reason) text = text ≡ reason
+IsReasonFor path fault (Some reason) text = IsAfterPath path reason text

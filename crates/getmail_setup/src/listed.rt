@@ -1,4 +1,16 @@
 //! The messages of a listing that are over the size limit, as the rows of the listing name them.
+ghost use Rattle.std.specs.Prelude.{◌≡◌, OnErr, OnOk};
+ghost use Rattle.getmail_setup.specs.Listed.{
+  BeginsListing,
+  HasRow,
+  HasSameRows,
+  IsFresh,
+  NotesRow,
+  size_in,
+  size_over,
+  without_end,
+};
+
 use mail_store::account_id;
 use mail_terms::cut_text;
 use pop3_wire::{Asked, Note, read_scan, read_uid};
@@ -15,7 +27,7 @@ pub struct Large {
     pub key: Key,
 }
 
-/// The rows of a listing: all of UIDL, and those of LIST with a size over the limit.
+/// The rows of the last listing: all of UIDL, and those of LIST with a size over the limit.
 #[derive(Drop)]
 pub struct Listed {
     limit: u64,
@@ -29,9 +41,34 @@ fn key_of(uid: &[u8]) -> Key {
     Key::new(account_id(str::from_utf8(uid).unwrap_or(""), 0, "too large").as_str())
 }
 
+/// A row of a listing, without blanks and what ends a line at its end.
+pub(crate) fn without_end(row: &[u8]) -> &[u8]
+    ensures { result.now ≡ without_end row.now }
+{
+    row.trim_ascii_end()
+}
+
+/// The number and the size in a row of LIST, if the size is over a limit.
+fn size_over(limit: u64, row: &[u8]) -> Option<(u32, u64)>
+    ensures { result ≡ size_over limit row.now }
+{
+    match read_scan(without_end(row)) {
+        Ok((number, size)) => {
+            if size > limit {
+                Some((number, size))
+            } else {
+                None
+            }
+        }
+        Err(_) => None,
+    }
+}
+
 impl Listed {
     /// Nothing is listed yet.
-    pub fn new(alloc: Global, limit: u64) -> Listed {
+    pub fn new(alloc: Global, limit: u64) -> Listed
+        ensures { IsFresh limit result }
+    {
         Listed {
             limit,
             asked: None,
@@ -40,26 +77,39 @@ impl Listed {
         }
     }
 
+    /// A listing that is asked for takes the place of an earlier one.
+    fn begin(&mut self, asked: Option<Asked>)
+        ensures { BeginsListing self.old asked self.new }
+    {
+        match asked {
+            Some(Asked::Uidl) => self.uids.clear(),
+            Some(Asked::List) => self.sizes.clear(),
+            _ => {}
+        }
+        self.asked = asked;
+    }
+
     /// Takes a row of a listing.
-    fn add(&mut self, row: &[u8]) -> Result<(), AllocError> {
+    fn add(&mut self, row: &[u8]) -> Result<(), AllocError>
+        ensures ok { OnOk result (HasRow self.old self.old.asked row.now self.new) }
+        ensures err { OnErr result (HasSameRows self.old self.new) }
+    {
         match self.asked {
             Some(Asked::Uidl) => self.uids.extend_from_slice(row),
-            Some(Asked::List) => {
-                if let Ok((number, size)) = read_scan(row.trim_ascii_end()) {
-                    if size > self.limit {
-                        self.sizes.push((number, size))?;
-                    }
-                }
-                Ok(())
-            }
+            Some(Asked::List) => match size_over(self.limit, row) {
+                Some(size) => Ok(self.sizes.push(size)?),
+                None => Ok(()),
+            },
             _ => Ok(()),
         }
     }
 
     /// Takes note of a part of the conversation. A row that there is no memory for isn't known.
-    pub fn note(&mut self, part: Note<'_>) {
+    pub fn note(&mut self, part: Note<'_>)
+        ensures { NotesRow self.old part.entry self.new }
+    {
         match part {
-            Note::Command(asked, _) => self.asked = asked,
+            Note::Command(asked, _) => self.begin(asked),
             Note::Body { text, .. } => {
                 let _ = self.add(text);
             }
@@ -68,7 +118,9 @@ impl Listed {
     }
 
     /// The size of a message, if it is over the limit.
-    fn size_of(&self, number: u32) -> Option<u64> {
+    fn size_of(&self, number: u32) -> Option<u64>
+        ensures { result ≡ size_in self.now.sizes.items number }
+    {
         let (_, size) = self.sizes.iter().find(|(listed, _)| *listed == number)?;
         Some(*size)
     }
@@ -80,7 +132,7 @@ impl Listed {
         while !rest.is_empty() {
             let (row, behind) = cut_text(rest);
             rest = behind;
-            let Ok((number, uid)) = read_uid(row.trim_ascii_end()) else {
+            let Ok((number, uid)) = read_uid(without_end(row)) else {
                 continue;
             };
             if numbers.binary_search(&number).is_err() {

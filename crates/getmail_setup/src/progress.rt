@@ -1,7 +1,21 @@
 //! The line of progress, which a terminal shows while messages come.
-ghost use Rattle.std.specs.{Prelude.{◌≡◌, ◌<◌, IfOk}, String.string_bytes};
-ghost use Rattle.getmail_setup.specs.Progress.{in_tenths, part_in, part_text, progress_text};
+ghost use Rattle.std.specs.{Prelude.{◌≡◌, ◌<◌, IfOk, length}, String.string_bytes};
+ghost use Rattle.getmail_setup.specs.Progress.{
+  NotesProgress,
+  HasNextSize,
+  HasTaken,
+  KnowsNothing,
+  due_after,
+  in_tenths,
+  is_due_line,
+  next_size,
+  part_in,
+  part_text,
+  progress_text,
+  size_for,
+};
 
+use crate::listed::without_end;
 use pop3_wire::{Asked, Note, read_scan};
 use std::alloc::{AllocError, Global};
 
@@ -71,7 +85,9 @@ fn part_text(alloc: Global, octets: u64, size: u64) -> Result<String, AllocError
 
 impl Progress {
     /// Nothing is known yet.
-    pub fn new(alloc: Global) -> Progress {
+    pub fn new(alloc: Global) -> Progress
+        ensures { KnowsNothing result }
+    {
         Progress {
             total: 0,
             rows: 0,
@@ -83,17 +99,35 @@ impl Progress {
         }
     }
 
-    /// Takes a row of LIST. Rows come in order; where one doesn't, or there is no memory, no more sizes are known.
-    fn add_size(&mut self, row: &[u8]) {
-        if let Ok((number, size)) = read_scan(row.trim_ascii_end()) {
-            if self.sizes.len() as u64 + 1 == u64::from(number) {
-                let _ = self.sizes.push(size);
+    /// The size in a row of LIST, if it is that of the next message: rows come in order.
+    fn next_size(&self, row: &[u8]) -> Option<u64>
+        ensures { result ≡ next_size (length self.now.sizes.items) row.now }
+    {
+        match read_scan(without_end(row)) {
+            Ok((number, size)) => {
+                if self.sizes.len() as u64 + 1 == u64::from(number) {
+                    Some(size)
+                } else {
+                    None
+                }
             }
+            Err(_) => None,
+        }
+    }
+
+    /// Takes a row of LIST. Where one isn't that of the next message, or there is no memory, no more sizes are known.
+    fn add_size(&mut self, row: &[u8])
+        ensures { HasNextSize self.old row.now self.new }
+    {
+        if let Some(size) = self.next_size(row) {
+            let _ = self.sizes.push(size);
         }
     }
 
     /// The size of the message that is asked for; 0 if it isn't known.
-    fn size_for(&self, asked: Option<Asked>) -> u64 {
+    fn size_for(&self, asked: Option<Asked>) -> u64
+        ensures { result ≡ size_for self.now.sizes.items asked }
+    {
         match asked {
             Some(Asked::Retr(number)) if number > 0 => {
                 let place = (number - 1) as usize;
@@ -103,8 +137,25 @@ impl Progress {
         }
     }
 
+    /// Takes a part of a body.
+    fn take(&mut self, text: &[u8], octets: usize)
+        ensures { HasTaken self.old self.old.asked text.now octets self.new }
+    {
+        self.octets = self.octets.saturating_add(octets as u64);
+        match self.asked {
+            Some(Asked::Uidl) => self.rows = self.rows.saturating_add(1),
+            Some(Asked::List) => {
+                self.rows = self.rows.saturating_add(1);
+                self.add_size(text);
+            }
+            _ => {}
+        }
+    }
+
     /// Takes note of a part of the conversation.
-    pub fn note(&mut self, part: Note<'_>) {
+    pub fn note(&mut self, part: Note<'_>)
+        ensures { NotesProgress self.old part.entry self.new }
+    {
         match part {
             Note::Command(asked, _) => {
                 self.size = self.size_for(asked);
@@ -113,22 +164,17 @@ impl Progress {
                 self.due = 0;
             }
             Note::Count(total) => self.total = total,
-            Note::Body { text, octets, .. } => {
-                self.octets = self.octets.saturating_add(octets as u64);
-                if let Some(Asked::Uidl | Asked::List) = self.asked {
-                    self.rows = self.rows.saturating_add(1);
-                }
-                if let Some(Asked::List) = self.asked {
-                    self.add_size(text);
-                }
-            }
+            Note::Body { text, octets, .. } => self.take(text, octets),
             Note::Reply(_) | Note::Refused => {}
         }
     }
 
     /// Whether the line is to be shown now: a message or a long listing has begun, or much more of it came since
     /// the last time.
-    pub fn is_due(&mut self) -> bool {
+    pub fn is_due(&mut self) -> bool
+        ensures due { result ≡ is_due_line self.old self.old.asked }
+        ensures next { self.new ≡ record self.old { due = due_after self.old self.old.asked } }
+    {
         match self.asked {
             Some(Asked::Stat | Asked::Uidl | Asked::List) => {
                 self.total >= ROWS && self.rows % ROWS == 0

@@ -1,8 +1,9 @@
 //! Why an rc file, or a command line with it, gives no settings: the line, its key and the rule that it breaks.
 //! A reason has no octet of the file.
-ghost use Rattle.std.specs.{Prelude.{◌≡◌, IfOk}, Ffi.without_last};
-ghost use Rattle.getmail_setup.specs.RcReason.{IsPathReason, IsReason, has_byte_order_mark, known_reason, opposites};
-ghost use Rattle.getmail_setup.specs.RcReason.{meant_reason, line_reason, type_rule, value_reason, value_rule};
+ghost use Rattle.std.specs.{Prelude.{◌≡◌, IfOk, option_map}, Ffi.without_last};
+ghost use Rattle.getmail_setup.specs.RcReason.{IsAfterPath, IsPathReason, IsReasonFor, has_byte_order_mark};
+ghost use Rattle.getmail_setup.specs.RcReason.{known_reason, line_reason, meant_reason, opposites, type_rule};
+ghost use Rattle.getmail_setup.specs.RcReason.{value_reason, value_rule};
 
 use crate::errors::Reasons;
 use crate::words::Words;
@@ -79,21 +80,16 @@ fn path_reason(alloc: Global, path: &str) -> Result<Vec<u8>, AllocError>
     Vec::from_slice(alloc, without_last(line.as_slice()))
 }
 
-/// The line in which a key that is missing may have been meant; without one the file's path.
-fn missing_reason(
-    alloc: Global,
-    key: Key,
-    line: Option<u32>,
-    path: &str,
-) -> Result<Vec<u8>, AllocError>
-    ensures { IfOk result (λ reason. IsReason path.now (meant_reason key line) reason.items) }
+/// The line in which a key that is missing may have been meant, if there is one.
+fn missing_reason(alloc: Global, key: Key, line: Option<u32>) -> Result<Option<Vec<u8>>, AllocError>
+    ensures { IfOk result (λ reason. option_map (λ text. text.items) reason ≡ meant_reason key line) }
 {
     let Some(line) = line else {
-        return path_reason(alloc, path);
+        return Ok(None);
     };
     let name = key.name();
     let text = format!(in alloc; "line {line}: is {name} meant?")?;
-    Vec::from_slice(alloc, text.as_bytes())
+    Ok(Some(Vec::from_slice(alloc, text.as_bytes())?))
 }
 
 /// Whether a file begins with a byte order mark.
@@ -130,52 +126,62 @@ fn opposites(words: &Words) -> &'static str
     }
 }
 
-/// The reason of a fault of an rc file of these octets, or of the flags: the file's path if nothing more is to be
-/// said.
+/// The reason of a fault of an rc file of these octets, or of the flags, if more is to be said than its line says.
 fn reason_of(
     alloc: Global,
     words: &Words,
-    path: &str,
     bytes: &[u8],
     fault: &RcFault,
-) -> Result<Vec<u8>, AllocError>
-    ensures { IfOk result (λ reason. IsReason path.now (known_reason words.now bytes.now fault.now) reason.items) }
+) -> Result<Option<Vec<u8>>, AllocError>
+    ensures { IfOk result (λ reason. option_map (λ text. text.items) reason
+        ≡ known_reason words.now bytes.now fault.now) }
 {
     let line = fault_line(alloc, bytes)?;
     match *fault {
-        RcFault::TooLong => Vec::from_slice(alloc, TOO_LONG.as_bytes()),
+        RcFault::TooLong => Ok(Some(Vec::from_slice(alloc, TOO_LONG.as_bytes())?)),
         RcFault::BadLine(line) => {
-            Vec::from_slice(alloc, line_reason(line == 1 && is_marked(bytes)).as_bytes())
+            let reason = line_reason(line == 1 && is_marked(bytes));
+            Ok(Some(Vec::from_slice(alloc, reason.as_bytes())?))
         }
-        RcFault::MissingKey(key) => missing_reason(alloc, key, line, path),
-        RcFault::UnknownType(key) => value_reason(alloc, key, type_rule(key), line),
-        RcFault::BadValue(key) => value_reason(alloc, key, value_rule(key), line),
-        RcFault::Unsupported(key) => value_reason(alloc, key, "must be false", line),
-        RcFault::BadPath => value_reason(alloc, Key::Path, PATH_RULE, line),
-        RcFault::Contradiction => Vec::from_slice(alloc, opposites(words).as_bytes()),
-        RcFault::MissingSection(_) => path_reason(alloc, path),
-        RcFault::NoMemory => path_reason(alloc, path),
+        RcFault::MissingKey(key) => missing_reason(alloc, key, line),
+        RcFault::UnknownType(key) => Ok(Some(value_reason(alloc, key, type_rule(key), line)?)),
+        RcFault::BadValue(key) => Ok(Some(value_reason(alloc, key, value_rule(key), line)?)),
+        RcFault::Unsupported(key) => Ok(Some(value_reason(alloc, key, "must be false", line)?)),
+        RcFault::BadPath => Ok(Some(value_reason(alloc, Key::Path, PATH_RULE, line)?)),
+        RcFault::Contradiction => Ok(Some(Vec::from_slice(alloc, opposites(words).as_bytes())?)),
+        RcFault::MissingSection(_) | RcFault::NoMemory => Ok(None),
     }
 }
 
-/// That reason after the path of the file, unless it is the path or about flags alone.
+/// A reason after the path of the file.
+fn after_path(alloc: Global, path: &str, reason: &[u8]) -> Result<Vec<u8>, AllocError>
+    ensures { IfOk result (λ text. IsAfterPath path.now reason.now text.items) }
+{
+    let mut text = path_reason(alloc, path)?;
+    text.extend_from_slice(b": ")?;
+    text.extend_from_slice(reason)?;
+    Ok(text)
+}
+
+/// What tells of a fault of an rc file, or of the flags: the path of the file and the reason, if one is known, or the
+/// reason alone, if it is about flags.
 fn reason_in(
     alloc: Global,
     words: &Words,
     file: RcFile<'_>,
     fault: &RcFault,
-) -> Result<Vec<u8>, AllocError> {
-    let reason = reason_of(alloc, words, file.path, file.bytes, fault)?;
-    let mut text = path_reason(alloc, file.path)?;
-    if matches!(fault, RcFault::Contradiction) || reason == text {
-        return Ok(reason);
+) -> Result<Vec<u8>, AllocError>
+    ensures { IfOk result (λ text. IsReasonFor file.entry.path.now fault.now
+        (known_reason words.now file.entry.bytes.now fault.now) text.items) }
+{
+    match (reason_of(alloc, words, file.bytes, fault)?, fault) {
+        (None, _) => path_reason(alloc, file.path),
+        (Some(reason), RcFault::Contradiction) => Ok(reason),
+        (Some(reason), _) => after_path(alloc, file.path, &reason),
     }
-    text.extend_from_slice(b": ")?;
-    text.extend_from_slice(&reason)?;
-    Ok(text)
 }
 
-/// Keeps the reason of a fault of an rc file, or of the flags. Without memory it isn't kept.
+/// Keeps what tells of a fault of an rc file, or of the flags. Without memory it isn't kept.
 pub fn keep_reason(
     alloc: Global,
     reasons: &Reasons,

@@ -1,5 +1,6 @@
 //! A link that shows progress on a terminal.
-ghost use Rattle.std.specs.Prelude.{◌≡◌};
+ghost use Rattle.std.specs.Prelude.{◌≡◌, IsSomeAnd, option_map};
+ghost use Rattle.getmail_setup.specs.Listed.{IsFresh};
 
 use crate::listed::Listed;
 use crate::progress::Progress;
@@ -44,13 +45,16 @@ impl<W: Wire, S: Write> ShownWire<W, S> {
 
     /// Keeps the rows of the listing that are about messages over a size limit.
     pub fn keep_listed(&mut self, limit: u64)
-        ensures { self.new.wire ≡ self.old.wire }
+        ensures wire { self.new.wire ≡ self.old.wire }
+        ensures listed { IsSomeAnd self.new.listed (IsFresh limit) }
     {
         self.listed = Some(Listed::new(self.alloc, limit));
     }
 
     /// The rows that were kept, if any were to be.
-    pub fn listed(&self) -> Option<&Listed> {
+    pub fn listed(&self) -> Option<&Listed>
+        ensures { option_map (λ listed. listed.now) result ≡ self.now.listed }
+    {
         self.listed.as_ref()
     }
 
