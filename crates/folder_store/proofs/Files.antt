@@ -135,7 +135,7 @@ replaced old mid new name bytes file r filled put flush = by r flush
     named e = rw e (ap (λ (d : Disk). record d { older = [] }) is_put)
 
     by : (r : Result Bool StoreFault) → FlushesNames mid r new → ReplacesDisk (disk_at old name) bytes r (disk_at new name)
-    by (Ok done) (yes, e) = named e
+    by (Ok done) (answer, e) = named e
     by (Err fault) (inl same) = inr (inl (ap (λ (d : Directory). disk_at d name) same ∙ is_put))
     by (Err fault) (inr e) = inr (inr (named e))
 
@@ -169,7 +169,7 @@ both_flushed old mid new name r (b, c, at, is, e) names = by r names
     all_is d same = rw same (ap (λ (disk : Disk). record disk { older = [] }) file_is)
 
     by : (r : Result Bool StoreFault) → FlushesNames mid r new → FlushesBoth (disk_at old name) r (disk_at new name)
-    by (Ok done) (yes, same) = all_is new same
+    by (Ok done) (answer, same) = all_is new same
     by (Err fault) (inl same) = inr (inl (ap (λ (d : Directory). disk_at d name) same ∙ file_is))
     by (Err fault) (inr same) = inr (inr (inr (all_is new same)))
 

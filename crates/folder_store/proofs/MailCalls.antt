@@ -104,7 +104,7 @@ named_leads folder = mapped_leads (named_by folder) (flush_keeps folder)
 
 pub flushes_leads : (folder : Folder) (a b : Directories) (r : Result Bool StoreFault)
     → Then (FlushesNamesIn folder r) a b → Leads a b
-flushes_leads folder a b (Ok done) (m, v, (yes, e)) = rw e (named_leads folder a m v)
+flushes_leads folder a b (Ok done) (m, v, (answer, e)) = rw e (named_leads folder a m v)
 flushes_leads folder a b (Err fault) (m, v, inl lacks) = moved_same a m b v lacks.0
 flushes_leads folder a b (Err fault) (m, v, inr (refused, e)) = rw e (named_leads folder a m v)
 
@@ -222,7 +222,7 @@ names_kept a b = each_by KeepsFile (λ a b. names_of (files_at b) ≡ names_of (
 -- a flush of names tells nothing of what can't be opened
 flush_odd : (folder : Folder) (done : Bool) (a b : Directories) → Then (FlushesNamesIn folder (Ok done)) a b
     → (b.odd_new ≡ a.odd_new) × (b.odd_cur ≡ a.odd_cur) × (b.dirs_cur ≡ a.dirs_cur)
-flush_odd folder done a b (m, v, (yes, e)) = rw e (v.odd_new, v.odd_cur, v.dirs_cur)
+flush_odd folder done a b (m, v, (answer, e)) = rw e (v.odd_new, v.odd_cur, v.dirs_cur)
 
 -- those that were seen are sought
 all_sought : (seeks : List ℕ → Bool) (files closed odd : List (List ℕ))
@@ -326,9 +326,9 @@ theirs {A} names files each = λ k d inside. each (base (string_bytes (get_or na
 
 pub told_one : {A B : Type 0} (folder : Folder) (b0 b1 b2 : Directories) (names : Vec (String A) B) (done : Bool)
     → Then (ListsIn folder All (Ok names)) b0 b1 → Then (FlushesNamesIn folder (Ok done)) b1 b2 → TellsOne b0 folder (Ok names) b2
-told_one {A} folder b0 b1 b2 names done (m1, v1, (there, (order, same, are), e1, shows)) (m2, v2, (yes, e2)) = (
+told_one {A} folder b0 b1 b2 names done (m1, v1, (there, (order, same, are), e1, shows)) (m2, v2, (answer, e2)) = (
   leads_after b0 b1 b2 (lists_learns folder All b0 b1 (Ok names) (m1, v1, (there, (order, same, are), e1, shows)))
-      (flushes_leads folder b1 b2 (Ok done) (m2, v2, (yes, e2))),
+      (flushes_leads folder b1 b2 (Ok done) (m2, v2, (answer, e2))),
   (
     rw (e2, v2.there, ap (λ (d : Directories). d.there) e1, (listed_is folder b1 m1).1) there,
     theirs names.items (files_at b2.entries) (λ name c. some_named b2.entries name (stay name c)),
@@ -500,7 +500,7 @@ module _ (b0 b1 : Directories) (content name : List ℕ) (file : MadeFile)
 
   pub put_all : (b2 : Directories) (r : Result Bool StoreFault) → Then (FlushesNamesIn New r) b1 b2 → PutsDurably b0 content name r b2
   unfolding put_unnamed
-  put_all b2 (Ok done) (m, v, (yes, e)) = put_named m b2 v e
+  put_all b2 (Ok done) (m, v, (answer, e)) = put_named m b2 v e
   put_all b2 (Err fault) (m, v, inl lacks) =
       let same = same_rests_at b1 m b2 v lacks.0 in
       let stands = put_unnamed.1 in

@@ -175,11 +175,11 @@ impl<'a, F: FileFolder + Drop> CutOff<'a, F> {
         ensures refused { self.new.is_refused ≡ not is_done }
         ensures stays { is_done ≡ false → has_others self.new ≡ has_others self.old }
     {
-        self.is_refused = !is_done;
         if is_done && self.may_be_there {
             self.are_ours = is_known(self.is_in(bytes));
             self.may_be_there = self.has_kept && !self.are_ours;
         }
+        self.is_refused = !is_done;
     }
 }
 
