@@ -1,6 +1,7 @@
 """`--why`: after a fault's line one more on standard error, with the account and the reason; also on a terminal."""
 
 import os
+import re
 import shutil
 import unittest
 
@@ -341,8 +342,8 @@ class Table(unittest.TestCase):
             self.check_told("destination refused", f"{taken}: is there already", f"{new}: its file system flushes no folders",
                             LD_PRELOAD=str(refuse_call), REFUSED_CALL="folder-flush")
 
-    def test_a_fault_without_a_reason_is_not_told_the_last_one(self):
-        """A write to the record that takes no octet is no refusal of the system: what was refused before isn't its reason."""
+    def test_a_write_that_takes_no_octet(self):
+        """It is no refusal of the system: it is told with its path, and not what was refused before."""
         with preload.library("refuse_step") as refuse_step:
             note = self.account.home / "note"
             below = {"LD_PRELOAD": str(refuse_step), "STEP_BELOW": str(self.account.home)}
@@ -352,8 +353,9 @@ class Table(unittest.TestCase):
                 thread.join(programs.SECONDS)
             steps = [line.split("\t") for line in note.read_text().splitlines()]
             number = next(k for k, (step, path) in enumerate(steps, 1) if step == "write" and "/.getmail/" in path)
-            self.check_told("seen file refused", f"{self.account.record}: the system gave no reason", **below,
-                            STEP_REFUSED=str(number), STEP_EFFECT="zero")
+            run = self.session(**below, STEP_REFUSED=str(number), STEP_EFFECT="zero")
+        made = rf"{re.escape(str(self.account.record))}\.tmp\.P\d+R[\da-f]+"
+        self.assertRegex(run.err.decode(), rf"\Agetmail: seen file refused\ngetmail: \S+: {made}: failed to write whole buffer\n\Z")
 
     def test_a_connection_that_ends(self):
         """Before the greeting, and from a server that is near, the tunnel has ended it."""
