@@ -2,7 +2,7 @@
 use Rattle.std.specs.{
   Prelude.{◌≡◌, ◌⊎◌, ◌==◌, ◌++◌, ℕ, List, [], None, codes, decimal, length, if◌then◌else◌},
   Path.path_join,
-  Str.Pattern.{FindsChar, RFindsChar, RFindsText, SplitsAroundMatch},
+  Str.Pattern.{RFindsChar, SplitsAroundMatch},
 }
 use Rattle.hex.specs.Hex.{encode_lower}
 use Rattle.folder_store.specs.declared.{host_paths.HostPaths.HostPaths, process_mark.ProcessMark.ProcessMark}
@@ -18,11 +18,6 @@ path_of_file base folder name = path_join (path_of_folder base folder) name
 -- a name with the mark of a process, its id and octets of random, after it
 abbrev pub with_process_mark : ProcessMark → List ℕ → List ℕ
 with_process_mark mark name = name ++ (codes ".P" ++ (decimal mark.process ++ (codes "R" ++ encode_lower mark.random)))
-
--- a name ends in such a mark
-abbrev pub EndsInMark : List ℕ → Type 0
-EndsInMark name = (front mark process random : List ℕ) × SplitsAroundMatch (RFindsText (codes ".P")) name front mark
-    × SplitsAroundMatch (FindsChar 82) mark process random × (length random ≡ 16)
 
 -- the folder that holds what a path names, and its name there: what is before and after the path's last '/'; in the
 -- program's own folder, if the path has none

@@ -1,7 +1,7 @@
 //! The part of a file's name that no other process has at the time.
 
-ghost use Rattle.std.specs.Prelude.{◌≡◌, IfOk, IsTrue, length, string_bytes};
-ghost use Rattle.folder_store.specs.HostPaths.{EndsInMark, with_process_mark};
+ghost use Rattle.std.specs.Prelude.{◌≡◌, IfOk, string_bytes};
+ghost use Rattle.folder_store.specs.HostPaths.{with_process_mark};
 
 use std::alloc::{AllocError, Global};
 use std::io;
@@ -52,17 +52,13 @@ fn is_id(text: &str) -> bool {
 }
 
 /// Whether a text is that of eight octets of random.
-fn is_random(text: &str) -> bool
-    ensures { IsTrue result → length text.now ≡ 16 }
-{
+fn is_random(text: &str) -> bool {
     text.len() == 16
         && text.bytes().all(|octet| octet.is_ascii_digit() || (b'a'..=b'f').contains(&octet))
 }
 
 /// Whether a name ends in the mark of a process, as `marked` writes it.
-pub fn is_marked(name: &str) -> bool
-    ensures { IsTrue result → EndsInMark name.now }
-{
+pub fn is_marked(name: &str) -> bool {
     let Some((_, mark)) = name.rsplit_once(".P") else {
         return false;
     };
