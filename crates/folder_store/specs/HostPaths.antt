@@ -8,7 +8,7 @@ use Rattle.hex.specs.Hex.{encode_lower}
 use Rattle.folder_store.specs.declared.{host_paths.HostPaths.HostPaths, process_mark.ProcessMark.ProcessMark}
 
 -- a path, and one in the folder that it leads to, if there is a name
-unfoldable pub path_of_folder : List ℕ → List ℕ → List ℕ
+abbrev pub path_of_folder : List ℕ → List ℕ → List ℕ
 path_of_folder base folder = if length folder == 0 then base else path_join base folder
 
 -- the path of a name in a folder of a path

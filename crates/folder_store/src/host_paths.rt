@@ -36,9 +36,10 @@ impl<'a> HostPaths<'a> {
         let mut base = String::with_capacity(self.alloc, room.saturating_add(2))?;
         base.push_str(self.base)?;
         let mut path = PathBuf::from(base);
-        if !folder.is_empty() {
-            path.push(folder)?;
+        if folder.is_empty() {
+            return Ok(path);
         }
+        path.push(folder)?;
         Ok(path)
     }
 
