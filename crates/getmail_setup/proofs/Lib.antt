@@ -1,4 +1,6 @@
 pub mod InPlaceLemmas
+pub mod ListedLemmas
 pub mod OutputLemmas
 mod SetupLemmas
+pub mod WarningLemmas
 mod WordsLemmas

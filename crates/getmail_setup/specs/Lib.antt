@@ -3,6 +3,7 @@ pub mod CommandLine
 pub mod Connecting
 pub mod Failures
 pub mod InPlace
+pub mod Journal
 pub mod Listed
 pub mod Lock
 pub mod NoSetup
@@ -10,3 +11,4 @@ pub mod Output
 pub mod Places
 pub mod Progress
 pub mod RcReason
+pub mod Warnings

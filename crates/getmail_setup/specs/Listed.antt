@@ -1,16 +1,18 @@
 -- The rows of a listing, and the messages over the size limit that they name.
 use Rattle.std.specs.{
-  Prelude.{◌≡◌, ◌⊎◌, ◌==◌, ◌-◌, ◌++◌, ℕ, List, [], ◌∷◌, Option, None, Some, Result, Ok, Err, length, nat_lt},
+  Prelude.{◌≡◌, ◌⊎◌, ◌==◌, ◌-◌, ◌++◌, ℕ, List, [], ◌∷◌, Option, None, Some, Result, Ok, Err, codes, length, nat_lt},
   Prelude.{option_map, take, if◌then◌else◌},
   Char.is_ascii_whitespace,
-  List.{find, suffix_len},
+  List.{filter_map, find, list_any, suffix_len},
 }
+use Rattle.mail_store.specs.FileName.{account_text}
+use Rattle.mail_terms.specs.Text.{lines_of_text}
 use Rattle.pop3_wire.specs.{
-  Fields.number_and_size,
+  Fields.{number_and_id, number_and_size},
   declared.{fault.WireFault.WireFault, note.Asked.{Asked, TheVariants.{Uidl, List as ListAsked}}},
   declared.note.Note.{Note, TheVariants.{Command, Body}},
 }
-use Rattle.getmail_setup.specs.declared.listed.Listed.{Listed}
+use Rattle.getmail_setup.specs.declared.listed.{Large.Large, Listed.Listed}
 
 -- a row without blanks and what ends a line at its end
 abbrev pub without_end : List ℕ → List ℕ
@@ -64,3 +66,22 @@ NotesRow old part new = new ≡ old
 -- the size of a message in the rows of LIST that are over the limit
 abbrev pub size_in : List (ℕ × ℕ) → ℕ → Option ℕ
 size_in sizes number = option_map (λ row. row.1) (find (λ row. row.0 == number) sizes)
+
+-- the message over the limit that a row of UIDL names, if its number is among these
+abbrev pub large_of : ℕ → List ℕ → Option ℕ → Option Large
+large_of number id None = None
+large_of number id (Some size) =
+    Some (record { number = number; size = size; key = account_text id 0 (codes "too large") })
+
+abbrev pub large_for : List (ℕ × ℕ) → List ℕ → Result (ℕ × List ℕ) WireFault → Option Large
+large_for sizes numbers (Err fault) = None
+large_for sizes numbers (Ok (number, id)) =
+    if list_any (λ one. one == number) numbers then large_of number id (size_in sizes number) else None
+
+abbrev pub large_in : List (ℕ × ℕ) → List ℕ → List ℕ → Option Large
+large_in sizes numbers row = large_for sizes numbers (number_and_id (without_end row))
+
+-- they are those that the rows of the last listing name, in its order
+abbrev pub AreLarge : Listed → List ℕ → List Large → Type 0
+AreLarge listed numbers large =
+    large ≡ filter_map (large_in listed.sizes.items numbers) (lines_of_text listed.uids.items)

@@ -1,5 +1,9 @@
 -- Why a run has no settings or no paths.
-use Rattle.std.specs.{Prelude.{◌≡◌, ◌⊎◌, true, ℕ, List, Option, None, Some, option_map}, String.string_bytes}
+use Rattle.std.specs.{
+  Prelude.{◌≡◌, ◌⊎◌, true, ℕ, List, Option, None, Some, Result, Ok, Err, String, option_map},
+  String.string_bytes,
+  declared.env.VarError.{VarError, TheVariants.OutOfMemory},
+}
 use Rattle.rc_file.specs.{
   Answer.{IsFaultMeant, fault_in},
   RcMeaning.rc_meaning,
@@ -10,6 +14,12 @@ use Rattle.getmail_setup.specs.{
   Places.{AreRead, IsRcPath, Reads, folder_path, path_in, rc_path, rc_room, whole_path},
   declared.{failure.Failure.{Failure, TheVariants.{CannotRead, NoHome, NoMemory, Rc}}, words.Words.Words},
 }
+
+-- the home, by what the environment says of HOME: none if it isn't set or isn't UTF-8
+abbrev pub home_of : {Z : Type 0} → Result (String Z) VarError → Result (Option (String Z)) Failure
+home_of (Ok home) = Ok (Some home)
+home_of (Err OutOfMemory) = Err NoMemory
+home_of (Err error) = Ok None
 
 -- memory ran out, or a path isn't known, for want of HOME
 abbrev pub HasNoPath : Option (List ℕ) → Failure → Type 0

@@ -1,7 +1,8 @@
 //! A list of what getmail6 fetched, in whose place a first run would fetch all mail again.
 ghost use Rattle.std.specs.{
-  Prelude.{◌≡◌, ◌≢◌, ◌≤◌, ◌++◌, ◌↔◌, ℕ, Bool, List, ◌∷◌, IfOk, IfSome, IfNone, IsErrAnd, IsTrue, MatchOption, length},
-  Prelude.{map, option_map, true},
+  Prelude.{◌≡◌, ◌≢◌, ◌≤◌, ◌<◌, ◌++◌, ◌↔◌, ℕ, Bool, List, ◌∷◌, IfOk, IfSome, IfNone, IsErrAnd, IsOkAnd, IsTrue},
+  Prelude.{MatchOption, length, map, option_map},
+  Fs.{IsFile, file_type, metadata_len},
   Char.is_ascii_digit,
   List.{AllWithin, suffix_len},
   IoError.error_kind,
@@ -13,7 +14,7 @@ ghost use Rattle.getmail_setup.specs.InPlace.{dash_for, dashed, is_address, is_m
 use crate::place::joined;
 use crate::setup::Setup;
 use std::alloc::{AllocError, Global};
-use std::fs;
+use std::fs::{self, Metadata};
 use std::io::{self, ErrorKind};
 use std::rt::Files;
 
@@ -152,6 +153,16 @@ fn says_free<T>(answer: &io::Result<T>) -> bool
     }
 }
 
+/// Whether the answer to a look at a path says that a file is there that isn't empty.
+fn says_full(answer: &io::Result<Metadata>) -> bool
+    ensures { IsTrue result ↔ IsOkAnd answer.now (λ found. IsFile (file_type found) × (0 < metadata_len found)) }
+{
+    match answer {
+        Ok(found) => found.is_file() && found.len() > 0,
+        Err(_) => false,
+    }
+}
+
 /// A machine's files.
 #[derive(Drop)]
 pub struct OnMachine<'a, R> {
@@ -166,10 +177,7 @@ impl<'a, R: Files + AllocGlobal + Clone + Drop> LookAt for OnMachine<'a, R> {
     ghost gave = { λ _ _ _. Unit {0} };
 
     fn has_octets(&self, path: &str) -> bool {
-        match fs::metadata(self.rt, path) {
-            Ok(found) => found.is_file() && found.len() > 0,
-            Err(_) => false,
-        }
+        says_full(&fs::metadata(self.rt, path))
     }
 
     fn is_free(&self, path: &str) -> bool {

@@ -1,11 +1,22 @@
 //! What an unattended run says, kept until it is decided what of it is told.
+ghost use Rattle.std.specs.{
+  Prelude.{◌≡◌, ◌⊎◌, ◌++◌, [], None, Some, IfOk, OnErr, OnOk, option_map, true},
+  List.filter_map,
+  String.string_bytes,
+};
+ghost use Rattle.getmail_setup.specs.{
+  Journal.{HasClosed, HasKept, IsEmpty, IsLeftOut, IsNoneLeft, IsUnmarked, too_large},
+  Places.account_name,
+};
+
 use crate::connection::account_name;
-use crate::listed::{Large, Listed};
+use crate::listed::{Large, Listed, push_some};
 use fetch_rules::{Settings, Skip, Step};
 use run_memory::Counts;
 use std::alloc::{AllocError, Global};
 use std::cell::Cell;
 use std::io::{self, Write};
+use std::mem;
 
 /// What a part of what is said is about.
 #[derive(Clone, Copy)]
@@ -40,24 +51,10 @@ pub struct LeftOut {
     pub counts: Counts,
 }
 
-/// What a run says, part by part, and how it came out.
-#[derive(Drop)]
-pub struct Journal {
-    alloc: Global,
-    begun: Cell<Vec<u8>>,
-    place: Cell<Vec<u8>>,
-    mark: Cell<Vec<u8>>,
-    account: Cell<Vec<u8>>,
-    parts: Cell<Vec<Part>>,
-    too_large: Cell<Option<Vec<u32>>>,
-    left_out: Cell<LeftOut>,
-    has_ended: Cell<bool>,
-    has_met: Cell<bool>,
-    lacks_memory: Cell<bool>,
-}
-
 /// Nothing was left out.
-fn none_left(alloc: Global) -> LeftOut {
+fn none_left(alloc: Global) -> LeftOut
+    ensures { IsNoneLeft result }
+{
     LeftOut {
         has_listed: false,
         large: Vec::new(alloc),
@@ -69,166 +66,311 @@ fn none_left(alloc: Global) -> LeftOut {
     }
 }
 
+/// The number of a message that is over the size limit.
+fn too_large(step: &Step) -> Option<u32>
+    ensures { result ≡ too_large step.now }
+{
+    match step.skip {
+        Some(Skip::TooLarge) => Some(step.number),
+        _ => None,
+    }
+}
+
 /// The numbers of the messages of a plan that are over the size limit.
-fn too_large_in(alloc: Global, plan: &[Step]) -> Result<Vec<u32>, AllocError> {
+#[tactic(auto, using(crate::proofs::ListedLemmas::picked_last))]
+fn too_large_in(alloc: Global, plan: &[Step]) -> Result<Vec<u32>, AllocError>
+    ensures { IfOk result (λ numbers. numbers.items ≡ filter_map too_large plan.now) }
+{
     let mut numbers = Vec::new(alloc);
     for step in plan {
-        if let Some(Skip::TooLarge) = step.skip {
-            numbers.push(step.number)?;
-        }
+        push_some(&mut numbers, too_large(step))?;
     }
     Ok(numbers)
 }
 
-/// The front of a path up to the mark of the process.
-fn unmarked<'a>(path: &'a str, mark: &[u8]) -> &'a [u8] {
-    let octets = path.as_bytes();
+/// The front of a path up to the mark of the process, if that is known.
+fn unmarked<'a>(path: &'a str, mark: &str) -> &'a str
+    ensures { IsUnmarked path.now mark.now result.now }
+{
     if mark.is_empty() {
-        return octets;
+        return path;
     }
-    match octets.windows(mark.len()).position(|part| part == mark) {
-        Some(place) => &octets[..place],
-        None => octets,
+    match path.split_once(mark) {
+        Some((front, _)) => front,
+        None => path,
     }
+}
+
+/// What a run left out: these messages of its listing, if it had one.
+fn left(has_listed: bool, large: Vec<Large>, limit: u64, counts: Counts) -> LeftOut
+    ensures { result ≡ record { has_listed = has_listed; large = large; limit = limit; counts = counts } }
+{
+    LeftOut {
+        has_listed,
+        large,
+        limit,
+        counts,
+    }
+}
+
+/// What a run left out: of its listing the messages with these numbers, if it is known what is planned for each.
+/// Without memory for them it had no listing.
+fn left_out_of(
+    alloc: Global,
+    too_large: Option<Vec<u32>>,
+    listed: Option<&Listed>,
+    limit: u64,
+    counts: Counts,
+) -> LeftOut
+    ensures same { (result.limit ≡ limit) × (result.counts ≡ counts) }
+    ensures large { IsLeftOut (option_map (λ numbers. numbers.items) too_large)
+        (option_map (λ listed. listed.now) listed.entry) result }
+{
+    match (too_large, listed) {
+        (None, _) => left(false, Vec::new(alloc), limit, counts),
+        (Some(_), None) => left(true, Vec::new(alloc), limit, counts),
+        (Some(numbers), Some(listed)) => match listed.among(alloc, &numbers) {
+            Ok(large) => left(true, large, limit, counts),
+            Err(_) => left(false, Vec::new(alloc), limit, counts),
+        },
+    }
+}
+
+/// What a run says, part by part, and how it came out. Without memory for a name or a path it stays as it was.
+#[derive(Drop)]
+struct Notes {
+    begun: Vec<u8>,
+    place: Vec<u8>,
+    mark: String,
+    account: Vec<u8>,
+    parts: Vec<Part>,
+    too_large: Option<Vec<u32>>,
+    left_out: LeftOut,
+    has_ended: bool,
+    has_met: bool,
+    lacks_memory: bool,
+}
+
+impl Notes {
+    /// Nothing was said yet.
+    fn new(alloc: Global) -> Notes
+        ensures { IsEmpty result }
+    {
+        Notes {
+            begun: Vec::new(alloc),
+            place: Vec::new(alloc),
+            mark: String::new(alloc),
+            account: Vec::new(alloc),
+            parts: Vec::new(alloc),
+            too_large: None,
+            left_out: none_left(alloc),
+            has_ended: false,
+            has_met: false,
+            lacks_memory: false,
+        }
+    }
+
+    /// More of a part was said.
+    fn add(&mut self, octets: &[u8]) -> Result<(), AllocError>
+        ensures ok { OnOk result ((self.new ≡ record self.old { begun = self.new.begun })
+            × (self.new.begun.items ≡ self.old.begun.items ++ octets.now)) }
+        ensures err { OnErr result ((self.new ≡ record self.old { begun = self.new.begun; lacks_memory = true })
+            × (self.new.begun.items ≡ self.old.begun.items)) }
+    {
+        let added = self.begun.extend_from_slice(octets);
+        if added.is_err() {
+            self.lacks_memory = true;
+        }
+        added
+    }
+
+    /// This is the mark of the process.
+    fn note_mark(&mut self, alloc: Global, mark: &str)
+        ensures same { self.new ≡ record self.old { mark = self.new.mark } }
+        ensures mark { (string_bytes self.new.mark ≡ mark.now) ⊎ (self.new.mark ≡ self.old.mark) }
+    {
+        if let Ok(mark) = String::from_str(alloc, mark) {
+            self.mark = mark;
+        }
+    }
+
+    /// The fault of the next part is about this path.
+    fn note_place(&mut self, alloc: Global, path: &str)
+        ensures same { self.new ≡ record self.old { place = self.new.place } }
+        ensures place { IsUnmarked path.now (string_bytes self.old.mark) self.new.place.items
+            ⊎ (self.new.place ≡ self.old.place) }
+    {
+        let front = unmarked(path, self.mark.as_str());
+        if let Ok(place) = Vec::from_slice(alloc, front.as_bytes()) {
+            self.place = place;
+        }
+    }
+
+    /// This is the run's account.
+    fn note_account(&mut self, alloc: Global, settings: &Settings)
+        ensures same { self.new ≡ record self.old { account = self.new.account } }
+        ensures account { (self.new.account.items ≡ account_name settings.now)
+            ⊎ (self.new.account ≡ self.old.account) }
+    {
+        if let Ok(account) = account_name(alloc, settings) {
+            self.account = account.into_bytes();
+        }
+    }
+
+    /// Keeps a part, if there is memory for it.
+    fn keep(&mut self, part: Part)
+        ensures same { self.new
+            ≡ record self.old { parts = self.new.parts; lacks_memory = self.new.lacks_memory } }
+        ensures kept { HasKept self.old part self.new }
+    {
+        if self.parts.push(part).is_err() {
+            self.lacks_memory = true;
+        }
+    }
+
+    /// What was said since the last part is one, if it was anything.
+    fn close(&mut self, alloc: Global, subject: Subject)
+        ensures same { self.new ≡ record self.old {
+          begun = self.new.begun;
+          place = self.new.place;
+          parts = self.new.parts;
+          lacks_memory = self.new.lacks_memory;
+        } }
+        ensures begins { (self.new.begun.items ≡ []) × (self.new.place.items ≡ []) }
+        ensures parts { HasClosed self.old subject self.new }
+    {
+        let text = mem::replace(&mut self.begun, Vec::new(alloc));
+        let place = mem::replace(&mut self.place, Vec::new(alloc));
+        if text.is_empty() {
+            return;
+        }
+        self.keep(Part {
+            subject,
+            text,
+            place,
+        });
+    }
+
+    /// This is what is planned for each message of the listing.
+    fn note_plan(&mut self, alloc: Global, plan: &[Step])
+        ensures same { self.new ≡ record self.old { too_large = self.new.too_large } }
+        ensures plan { (option_map (λ numbers. numbers.items) self.new.too_large ≡ Some (filter_map too_large plan.now))
+            ⊎ (self.new.too_large ≡ self.old.too_large) }
+    {
+        if let Ok(numbers) = too_large_in(alloc, plan) {
+            self.too_large = Some(numbers);
+        }
+    }
+
+    /// These were the rows of the listing, and so many messages were left out.
+    fn note_left_out(&mut self, alloc: Global, listed: Option<&Listed>, limit: u64, counts: Counts)
+        ensures same { self.new ≡ record self.old { too_large = None; left_out = self.new.left_out } }
+        ensures counts { (self.new.left_out.limit ≡ limit) × (self.new.left_out.counts ≡ counts) }
+        ensures large { IsLeftOut (option_map (λ numbers. numbers.items) self.old.too_large)
+            (option_map (λ listed. listed.now) listed.entry) self.new.left_out }
+    {
+        let too_large = self.too_large.take();
+        self.left_out = left_out_of(alloc, too_large, listed, limit, counts);
+    }
+}
+
+/// What a run says, part by part, and how it came out.
+#[derive(Drop)]
+pub struct Journal {
+    alloc: Global,
+    notes: Cell<Notes>,
 }
 
 impl Journal {
     /// Nothing was said yet.
     pub fn new(alloc: Global) -> Journal {
-        Journal {
-            alloc,
-            begun: Cell::new(Vec::new(alloc)),
-            place: Cell::new(Vec::new(alloc)),
-            mark: Cell::new(Vec::new(alloc)),
-            account: Cell::new(Vec::new(alloc)),
-            parts: Cell::new(Vec::new(alloc)),
-            too_large: Cell::new(None),
-            left_out: Cell::new(none_left(alloc)),
-            has_ended: Cell::new(false),
-            has_met: Cell::new(false),
-            lacks_memory: Cell::new(false),
-        }
+        let notes = Cell::new(Notes::new(alloc));
+        Journal { alloc, notes }
+    }
+
+    fn with<T, F: FnOnce(&mut Notes) -> T>(&self, change: F) -> T
+        requires { F.IsAlwaysCallable change }
+    {
+        let mut notes = self.notes.replace(Notes::new(self.alloc));
+        let answer = change(&mut notes);
+        self.notes.set(notes);
+        answer
     }
 
     /// More of a part was said.
     fn add(&self, octets: &[u8]) -> Result<(), AllocError> {
-        let mut begun = self.begun.replace(Vec::new(self.alloc));
-        let added = begun.extend_from_slice(octets);
-        self.begun.set(begun);
-        if added.is_err() {
-            self.lacks_memory.set(true);
-        }
-        added
+        self.with(|notes| notes.add(octets))
     }
 
     /// This is the mark of the process, which the names of the files that it makes have.
     pub fn note_mark(&self, mark: &str) {
-        if let Ok(mark) = Vec::from_slice(self.alloc, mark.as_bytes()) {
-            self.mark.set(mark);
-        }
+        self.with(|notes| notes.note_mark(self.alloc, mark))
     }
 
     /// The fault of the next part is about this path. The mark of the process isn't noted, nor what is behind it.
     pub fn note_place(&self, path: &str) {
-        let mark = self.mark.replace(Vec::new(self.alloc));
-        if let Ok(place) = Vec::from_slice(self.alloc, unmarked(path, &mark)) {
-            self.place.set(place);
-        }
-        self.mark.set(mark);
+        self.with(|notes| notes.note_place(self.alloc, path))
     }
 
     /// The name of the account, as lines have it.
     pub fn note_account(&self, settings: &Settings) {
-        if let Ok(account) = account_name(self.alloc, settings) {
-            if let Ok(account) = Vec::from_slice(self.alloc, account.as_bytes()) {
-                self.account.set(account);
-            }
-        }
+        self.with(|notes| notes.note_account(self.alloc, settings))
     }
 
     /// The name of the account; empty if it isn't known. It is taken out.
     pub fn take_account(&self) -> Vec<u8> {
-        self.account.replace(Vec::new(self.alloc))
+        self.with(|notes| mem::replace(&mut notes.account, Vec::new(self.alloc)))
     }
 
     /// What was said since the last part is one, if it was anything.
     pub fn close(&self, subject: Subject) {
-        let text = self.begun.replace(Vec::new(self.alloc));
-        let place = self.place.replace(Vec::new(self.alloc));
-        if text.is_empty() {
-            return;
-        }
-        let mut parts = self.parts.replace(Vec::new(self.alloc));
-        let kept = parts.push(Part {
-            subject,
-            text,
-            place,
-        });
-        if kept.is_err() {
-            self.lacks_memory.set(true);
-        }
-        self.parts.set(parts);
+        self.with(|notes| notes.close(self.alloc, subject))
     }
 
     /// This is what is planned for each message of the listing.
     pub fn note_plan(&self, plan: &[Step]) {
-        if let Ok(numbers) = too_large_in(self.alloc, plan) {
-            self.too_large.set(Some(numbers));
-        }
+        self.with(|notes| notes.note_plan(self.alloc, plan))
     }
 
     /// These were the rows of the listing, and so many messages were left out.
     pub fn note_left_out(&self, listed: Option<&Listed>, limit: u64, counts: Counts) {
-        let (has_listed, large) = match (self.too_large.replace(None), listed) {
-            (None, _) => (false, Vec::new(self.alloc)),
-            (Some(_), None) => (true, Vec::new(self.alloc)),
-            (Some(numbers), Some(listed)) => match listed.among(self.alloc, &numbers) {
-                Ok(large) => (true, large),
-                Err(_) => (false, Vec::new(self.alloc)),
-            },
-        };
-        self.left_out.set(LeftOut {
-            has_listed,
-            large,
-            limit,
-            counts,
-        });
+        self.with(|notes| notes.note_left_out(self.alloc, listed, limit, counts))
     }
 
     /// What was left out. It is taken out.
     pub fn take_left_out(&self) -> LeftOut {
-        self.left_out.replace(none_left(self.alloc))
+        self.with(|notes| mem::replace(&mut notes.left_out, none_left(self.alloc)))
     }
 
     /// The run came to its end.
     pub fn note_end(&self) {
-        self.has_ended.set(true);
+        self.with(|notes| notes.has_ended = true)
     }
 
     /// Whether the run came to its end.
     pub fn has_ended(&self) -> bool {
-        self.has_ended.get()
+        self.with(|notes| notes.has_ended)
     }
 
     /// Another run had the lock.
     pub fn note_met(&self) {
-        self.has_met.set(true);
+        self.with(|notes| notes.has_met = true)
     }
 
     /// Whether another run had the lock.
     pub fn has_met(&self) -> bool {
-        self.has_met.get()
+        self.with(|notes| notes.has_met)
     }
 
     /// Whether there was no memory for a part of what was said.
     pub fn lacks_memory(&self) -> bool {
-        self.lacks_memory.get()
+        self.with(|notes| notes.lacks_memory)
     }
 
     /// What was said. It is taken out.
     pub fn take(&self) -> Vec<Part> {
         self.close(Subject::Notice);
-        self.parts.replace(Vec::new(self.alloc))
+        self.with(|notes| mem::replace(&mut notes.parts, Vec::new(self.alloc)))
     }
 }
 

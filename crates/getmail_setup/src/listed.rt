@@ -1,11 +1,19 @@
 //! The messages of a listing that are over the size limit, as the rows of the listing name them.
-ghost use Rattle.std.specs.Prelude.{◌≡◌, OnErr, OnOk};
+ghost use Rattle.std.specs.{
+  Prelude.{◌≡◌, ◌++◌, IfOk, OnErr, OnOk, codes},
+  Option.option_to_list,
+  List.filter_map,
+  Str.IsUtf8,
+};
+ghost use Rattle.mail_store.specs.FileName.{account_text};
+ghost use Rattle.mail_terms.specs.Text.{lines_of_text};
 ghost use Rattle.getmail_setup.specs.Listed.{
   BeginsListing,
+  NotesRow,
   HasRow,
   HasSameRows,
   IsFresh,
-  NotesRow,
+  large_in,
   size_in,
   size_over,
   without_end,
@@ -37,7 +45,10 @@ pub struct Listed {
 }
 
 /// The key of an id. No line of a fault has a NUL.
-fn key_of(uid: &[u8]) -> Key {
+fn key_of(uid: &[u8]) -> Key
+    requires { IsUtf8 uid.now }
+    ensures { result ≡ account_text uid.now 0 (codes "too large") }
+{
     Key::new(account_id(str::from_utf8(uid).unwrap_or(""), 0, "too large").as_str())
 }
 
@@ -62,6 +73,16 @@ fn size_over(limit: u64, row: &[u8]) -> Option<(u32, u64)>
         }
         Err(_) => None,
     }
+}
+
+/// Adds what there is to a list.
+pub(crate) fn push_some<T: Copy>(list: &mut Vec<T>, item: Option<T>) -> Result<(), AllocError>
+    ensures { OnOk result (list.new.items ≡ list.old.items ++ option_to_list item) }
+{
+    if let Some(item) = item {
+        list.push(item)?;
+    }
+    Ok(())
 }
 
 impl Listed {
@@ -125,23 +146,33 @@ impl Listed {
         Some(*size)
     }
 
-    /// The messages among these numbers, which rise, that are over the limit.
-    pub fn among(&self, alloc: Global, numbers: &[u32]) -> Result<Vec<Large>, AllocError> {
+    /// The message over the limit that a row of UIDL names, if its number is among these.
+    fn large_in(&self, numbers: &[u32], row: &[u8]) -> Option<Large>
+        ensures { result ≡ large_in self.now.sizes.items numbers.now row.now }
+    {
+        let Ok((number, uid)) = read_uid(without_end(row)) else {
+            return None;
+        };
+        if !numbers.contains(&number) {
+            return None;
+        }
+        let size = self.size_of(number)?;
+        let key = key_of(uid);
+        Some(Large { number, size, key })
+    }
+
+    /// The messages among these numbers that are over the limit, in the order of the rows of UIDL.
+    #[tactic(auto, using(crate::proofs::ListedLemmas::picked_first))]
+    pub fn among(&self, alloc: Global, numbers: &[u32]) -> Result<Vec<Large>, AllocError>
+        ensures { IfOk result (λ found. found.items
+            ≡ filter_map (large_in self.now.sizes.items numbers.now) (lines_of_text self.now.uids.items)) }
+    {
         let mut found = Vec::new(alloc);
         let mut rest = self.uids.as_slice();
         while !rest.is_empty() {
             let (row, behind) = cut_text(rest);
             rest = behind;
-            let Ok((number, uid)) = read_uid(without_end(row)) else {
-                continue;
-            };
-            if numbers.binary_search(&number).is_err() {
-                continue;
-            }
-            if let Some(size) = self.size_of(number) {
-                let key = key_of(uid);
-                found.push(Large { number, size, key })?;
-            }
+            push_some(&mut found, self.large_in(numbers, row))?;
         }
         Ok(found)
     }

@@ -1,7 +1,7 @@
 //! The paths of the rc file, the record and the destination.
 ghost use Rattle.std.specs.{Prelude.{◌≡◌, Some, IfErr, IfOk, option_map}, String.string_bytes};
 ghost use Rattle.getmail_setup.specs.{
-  NoSetup.HasNoPath,
+  NoSetup.{HasNoPath, home_of},
   Places.{folder_path, joined, rc_path, stands_alone, whole_path},
 };
 
@@ -35,13 +35,20 @@ fn stands_alone(path: &str) -> bool
     path.as_bytes().starts_with(b"/") || path.as_bytes().starts_with(b"~/")
 }
 
-/// The user's home; none if HOME isn't set or isn't UTF-8.
-pub fn home<'a, R: Env + AllocGlobal>(rt: &R) -> Result<Option<String>, Failure<'a>> {
-    match env::var(rt, "HOME") {
+/// The home, by what the environment says of HOME.
+fn home_of<'a>(answer: Result<String, VarError>) -> Result<Option<String>, Failure<'a>>
+    ensures { result ≡ home_of answer }
+{
+    match answer {
         Ok(home) => Ok(Some(home)),
         Err(VarError::OutOfMemory) => Err(Failure::NoMemory),
         Err(_) => Ok(None),
     }
+}
+
+/// The user's home; none if HOME isn't set or isn't UTF-8.
+pub fn home<'a, R: Env + AllocGlobal>(rt: &R) -> Result<Option<String>, Failure<'a>> {
+    home_of(env::var(rt, "HOME"))
 }
 
 /// A path, with the home in place of a leading `~`.

@@ -5,7 +5,6 @@ ghost use Rattle.getmail_setup.specs.RcReason.{IsAfterPath, IsPathReason, IsReas
 ghost use Rattle.getmail_setup.specs.RcReason.{known_reason, line_reason, meant_reason, opposites, type_rule};
 ghost use Rattle.getmail_setup.specs.RcReason.{value_reason, value_rule};
 
-use crate::errors::Reasons;
 use crate::words::Words;
 use rc_file::{Key, RcFault, fault_line};
 use std::alloc::{AllocError, Global};
@@ -165,7 +164,7 @@ fn after_path(alloc: Global, path: &str, reason: &[u8]) -> Result<Vec<u8>, Alloc
 
 /// What tells of a fault of an rc file, or of the flags: the path of the file and the reason, if one is known, or the
 /// reason alone, if it is about flags.
-fn reason_in(
+pub fn reason_in(
     alloc: Global,
     words: &Words,
     file: RcFile<'_>,
@@ -179,15 +178,4 @@ fn reason_in(
         (Some(reason), RcFault::Contradiction) => Ok(reason),
         (Some(reason), _) => after_path(alloc, file.path, &reason),
     }
-}
-
-/// Keeps what tells of a fault of an rc file, or of the flags. Without memory it isn't kept.
-pub fn keep_reason(
-    alloc: Global,
-    reasons: &Reasons,
-    fault: &RcFault,
-    file: RcFile<'_>,
-    words: &Words,
-) {
-    reasons.rule.set(reason_in(alloc, words, file, fault).ok());
 }

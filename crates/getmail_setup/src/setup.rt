@@ -1,28 +1,32 @@
 //! The settings of a run: those of the rc file, changed by the flags, and its paths.
 ghost use Rattle.std.specs.{
-  Prelude.{◌≡◌, ◌⊎◌, ◌++◌, ℕ, List, Some, IfErr, IfOk, codes, option_map},
+  Prelude.{◌≡◌, ◌⊎◌, ◌++◌, ℕ, List, [], Some, IfErr, IfOk, OnOk, codes, option_map},
   String.string_bytes,
 };
 ghost use Rattle.rc_file.specs.Settings.{IsValid};
 ghost use Rattle.getmail_setup.specs.{
+  Failures.cause_line,
   NoSetup.{GivesNone, HasNoPath, HasNoSetup, MeansNone},
+  Output.Puts,
   Places.{AreAsked, AreFor, IsSetUp, IsToldPath, account_path, account_digits, path_in, folder_path, rc_room},
   Places.whole_path,
+  Warnings.{IsOthersText, IsToldOthers, IsToldPort, has_tls_port, says_open, warnings_text},
 };
 
 use crate::connection::is_socket;
 use crate::errors::{Errors, tell_reason};
 use crate::failure::{Failure, failure_of};
 use crate::journal::Subject;
+use crate::listed::without_end;
 use crate::place::{folder, joined, rc_file, whole_path};
-use crate::rc_reason::{RcFile, keep_reason};
+use crate::rc_reason::{RcFile, reason_in};
 use crate::words::Words;
 use fetch_rules::{Dest, Flags, Settings, Warning, override_with, read_rc, warning_text};
 use file_reading::ReadFile;
 use mail_store::{AccountId, account_id};
 use std::alloc::{AllocError, Global};
-use std::fs;
-use std::io::Write;
+use std::fs::{self, Metadata};
+use std::io::{self, Write};
 use std::os::unix::fs::PermissionsExt;
 use std::rt::Files;
 use system_calls::line_text;
@@ -64,18 +68,23 @@ pub struct Setup {
 }
 
 /// Writes a warning, about an account if it is known.
-fn put_warning<E: Write>(account: Option<&Settings>, text: &[u8], errors: &mut Errors<'_, E>) {
+fn put_warning<E: Write>(account: Option<&Settings>, text: &[u8], errors: &mut Errors<'_, E>)
+    ensures { Puts E.contents errors.old.err
+        (cause_line (option_map (λ settings. settings.now) account.entry) [] text.now) errors.new.err }
+{
     tell_reason(account, "", text, &mut errors.err);
     errors.close(Subject::Notice);
 }
 
 /// Writes the rc file's warnings.
+#[tactic(auto, using(crate::proofs::WarningLemmas::puts_more, crate::proofs::OutputLemmas::puts_none))]
 fn tell_warnings<'a, E: Write>(
     alloc: Global,
     warnings: &[Warning],
     errors: &mut Errors<'_, E>,
 ) -> Result<(), Failure<'a>>
-    ensures { IfErr result (λ failure. failure ≡ Failure.NoMemory) }
+    ensures ok { OnOk result (Puts E.contents errors.old.err (warnings_text warnings.now) errors.new.err) }
+    ensures err { IfErr result (λ failure. failure ≡ Failure.NoMemory) }
 {
     for warning in warnings {
         let text = warning_text(alloc, warning)?;
@@ -84,18 +93,27 @@ fn tell_warnings<'a, E: Write>(
     Ok(())
 }
 
-/// Whether others than its owner may read or write a file.
-fn is_others_too<R: Files>(rt: &R, path: &str) -> bool {
-    match fs::metadata(rt, path) {
-        Ok(metadata) => metadata.permissions().mode() & 0o066 != 0,
+/// Whether the answer to a look at a file says that others than its owner may read or write it.
+fn says_open(answer: &io::Result<Metadata>) -> bool
+    ensures { result ≡ says_open answer.now }
+{
+    match answer {
+        Ok(found) => found.permissions().mode() & 0o066 != 0,
         Err(_) => false,
     }
 }
 
+/// Whether others than its owner may read or write a file.
+fn is_others_too<R: Files>(rt: &R, path: &str) -> bool {
+    says_open(&fs::metadata(rt, path))
+}
+
 /// The warning of a file that others may read.
-fn others_text(alloc: Global, path: &str) -> Result<Vec<u8>, AllocError> {
+fn others_text(alloc: Global, path: &str) -> Result<Vec<u8>, AllocError>
+    ensures { IfOk result (λ text. IsOthersText path.now text.items) }
+{
     let line = line_text(alloc, OTHERS, path.as_bytes())?;
-    let mut text = Vec::from_slice(alloc, line.trim_ascii_end())?;
+    let mut text = Vec::from_slice(alloc, without_end(&line))?;
     text.extend_from_slice(PRIVATE)?;
     Ok(text)
 }
@@ -106,24 +124,38 @@ fn warn_of_others<R: Files + AllocGlobal, E: Write>(
     path: &str,
     settings: &Settings,
     errors: &mut Errors<'_, E>,
-) {
-    if !is_others_too(rt, path) {
-        return;
+)
+    ensures { (text : List ℕ) × IsToldOthers path.now settings.now text
+        × Puts E.contents errors.old.err text errors.new.err }
+{
+    if is_others_too(rt, path) {
+        if let Ok(text) = others_text(rt.alloc(), path) {
+            return put_warning(Some(settings), &text, errors);
+        }
     }
-    if let Ok(text) = others_text(rt.alloc(), path) {
-        put_warning(Some(settings), &text, errors);
-    }
+    errors.err.put(b"");
 }
 
-/// Warns of a port that servers have for TLS. A socket has no port.
-fn warn_of_port<E: Write>(alloc: Global, settings: &Settings, errors: &mut Errors<'_, E>) {
+/// Whether a server's port is one that servers have for TLS. A socket has no port.
+fn has_tls_port(settings: &Settings) -> bool
+    ensures { result ≡ has_tls_port settings.now }
+{
     let port = settings.port;
-    if is_socket(settings.server.as_str()) || (port != 993 && port != 995) {
-        return;
+    !is_socket(settings.server.as_str()) && (port == 993 || port == 995)
+}
+
+/// Warns of a port that servers have for TLS.
+fn warn_of_port<E: Write>(alloc: Global, settings: &Settings, errors: &mut Errors<'_, E>)
+    ensures { (text : List ℕ) × IsToldPort settings.now (has_tls_port settings.now) text
+        × Puts E.contents errors.old.err text errors.new.err }
+{
+    if has_tls_port(settings) {
+        let port = settings.port;
+        if let Ok(text) = format!(in alloc; "warning: port {port} is for TLS, {NO_TLS}") {
+            return put_warning(Some(settings), text.as_bytes(), errors);
+        }
     }
-    if let Ok(text) = format!(in alloc; "warning: port {port} is for TLS, {NO_TLS}") {
-        put_warning(Some(settings), text.as_bytes(), errors);
-    }
+    errors.err.put(b"");
 }
 
 /// The settings that an rc file of these octets means, changed by the flags. Its warnings are written.
@@ -175,7 +207,8 @@ fn settings_of<'a, R: Files + AllocGlobal, S: ReadFile, E: Write>(
             }
             Err(Failure::Rc(fault)) => {
                 let bytes = bytes.as_slice();
-                keep_reason(alloc, errors.reasons, fault, RcFile { path, bytes }, words)
+                let reason = reason_in(alloc, words, RcFile { path, bytes }, fault);
+                errors.reasons.rule.set(reason.ok());
             }
             Err(_) => {}
         }
