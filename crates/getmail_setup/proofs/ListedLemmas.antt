@@ -2,7 +2,7 @@
 use Rattle.std.{
   proofs.{
     Common.{◌≡◌, ◌∙◌, ◌+◌, ◌++◌, ◌<◌, ℕ, suc, List, [], ◌∷◌, None, Option, Some, ap, append-nil, arith, filter_map, get_or, length},
-    Common.{option_to_list, refl, take},
+    Common.{option_to_list, refl, sym, take},
     Math.Seq.take-suc,
     lemmas.List.Elements.filter_map-append,
   },
@@ -24,3 +24,9 @@ picked_last h xs i d within =
     ap (λ (k : ℕ). filter_map h (take k xs)) next ∙ ap (filter_map h) (take-suc xs i d within)
     ∙ filter_map-append h (take i xs) (get_or xs i d ∷ [])
     ∙ ap (λ ys. filter_map h (take i xs) ++ ys) (picked_first h (get_or xs i d) [] ∙ append-nil (option_to_list (h (get_or xs i d))))
+
+pub picked_more : {X Y : Type 0} (h : X → Option Y) (xs : List X) (i : ℕ) (d : X) (o : Option Y) (ys zs : List Y) → i < length xs
+    → ys ≡ filter_map h (take i xs) → o ≡ h (get_or xs i d) → zs ≡ ys ++ option_to_list o → zs ≡ filter_map h (take (i + 1) xs)
+picked_more h xs i d o ys zs within begun is more =
+    more ∙ ap (λ l. l ++ option_to_list o) begun ∙ ap (λ p. filter_map h (take i xs) ++ option_to_list p) is
+    ∙ sym (picked_last h xs i d within)

@@ -77,7 +77,6 @@ fn too_large(step: &Step) -> Option<u32>
 }
 
 /// The numbers of the messages of a plan that are over the size limit.
-#[tactic(auto, using(crate::proofs::ListedLemmas::picked_last))]
 fn too_large_in(alloc: Global, plan: &[Step]) -> Result<Vec<u32>, AllocError>
     ensures { IfOk result (λ numbers. numbers.items ≡ filter_map too_large plan.now) }
 {

@@ -77,7 +77,7 @@ fn put_warning<E: Write>(account: Option<&Settings>, text: &[u8], errors: &mut E
 }
 
 /// Writes the rc file's warnings.
-#[tactic(auto, using(crate::proofs::WarningLemmas::puts_more, crate::proofs::OutputLemmas::puts_none))]
+#[tactic(auto, using(crate::proofs::OutputLemmas::puts_none))]
 fn tell_warnings<'a, E: Write>(
     alloc: Global,
     warnings: &[Warning],
