@@ -63,8 +63,8 @@ HasClosed old subject new = HasClosedAs (vec_len old.begun == 0) old subject new
 
 -- a run left out these messages of its listing, if their numbers are known: with no rows none is named, and without
 -- memory it counts as one without a listing
-abbrev pub IsLeftOut : Option (List ℕ) → Option Listed → LeftOut → Type 0
-IsLeftOut None listed left = (left.has_listed ≡ false) × (left.large.items ≡ [])
-IsLeftOut (Some numbers) None left = (left.has_listed ≡ true) × (left.large.items ≡ [])
-IsLeftOut (Some numbers) (Some listed) left = ((left.has_listed ≡ false) × (left.large.items ≡ []))
+abbrev pub HasLeftOut : Option (List ℕ) → Option Listed → LeftOut → Type 0
+HasLeftOut None listed left = (left.has_listed ≡ false) × (left.large.items ≡ [])
+HasLeftOut (Some numbers) None left = (left.has_listed ≡ true) × (left.large.items ≡ [])
+HasLeftOut (Some numbers) (Some listed) left = ((left.has_listed ≡ false) × (left.large.items ≡ []))
     ⊎ ((left.has_listed ≡ true) × AreLarge listed numbers left.large.items)

@@ -64,8 +64,8 @@ NotesRow old (Body text octets ended) new = HasRow old old.asked text.now new �
 NotesRow old part new = new ≡ old
 
 -- the size of a message in the rows of LIST that are over the limit
-abbrev pub size_in : List (ℕ × ℕ) → ℕ → Option ℕ
-size_in sizes number = option_map (λ row. row.1) (find (λ row. row.0 == number) sizes)
+abbrev pub large_size : List (ℕ × ℕ) → ℕ → Option ℕ
+large_size sizes number = option_map (λ row. row.1) (find (λ row. row.0 == number) sizes)
 
 -- the message over the limit that a row of UIDL names, if its number is among these
 abbrev pub large_of : ℕ → List ℕ → Option ℕ → Option Large
@@ -76,7 +76,7 @@ large_of number id (Some size) =
 abbrev pub large_for : List (ℕ × ℕ) → List ℕ → Result (ℕ × List ℕ) WireFault → Option Large
 large_for sizes numbers (Err fault) = None
 large_for sizes numbers (Ok (number, id)) =
-    if list_any (λ one. one == number) numbers then large_of number id (size_in sizes number) else None
+    if list_any (λ one. one == number) numbers then large_of number id (large_size sizes number) else None
 
 abbrev pub large_in : List (ℕ × ℕ) → List ℕ → List ℕ → Option Large
 large_in sizes numbers row = large_for sizes numbers (number_and_id (without_end row))

@@ -5,7 +5,7 @@ ghost use Rattle.std.specs.{
   String.string_bytes,
 };
 ghost use Rattle.getmail_setup.specs.{
-  Journal.{HasClosed, HasKept, IsEmpty, IsLeftOut, IsNoneLeft, IsUnmarked, too_large},
+  Journal.{HasClosed, HasKept, HasLeftOut, IsEmpty, IsNoneLeft, IsUnmarked, too_large},
   Places.account_name,
 };
 
@@ -122,7 +122,7 @@ fn left_out_of(
     counts: Counts,
 ) -> LeftOut
     ensures same { (result.limit ≡ limit) × (result.counts ≡ counts) }
-    ensures large { IsLeftOut (option_map (λ numbers. numbers.items) too_large)
+    ensures large { HasLeftOut (option_map (λ numbers. numbers.items) too_large)
         (option_map (λ listed. listed.now) listed.entry) result }
 {
     match (too_large, listed) {
@@ -265,7 +265,7 @@ impl Notes {
     fn note_left_out(&mut self, alloc: Global, listed: Option<&Listed>, limit: u64, counts: Counts)
         ensures same { self.new ≡ record self.old { too_large = None; left_out = self.new.left_out } }
         ensures counts { (self.new.left_out.limit ≡ limit) × (self.new.left_out.counts ≡ counts) }
-        ensures large { IsLeftOut (option_map (λ numbers. numbers.items) self.old.too_large)
+        ensures large { HasLeftOut (option_map (λ numbers. numbers.items) self.old.too_large)
             (option_map (λ listed. listed.now) listed.entry) self.new.left_out }
     {
         let too_large = self.too_large.take();

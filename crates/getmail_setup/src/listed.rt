@@ -14,7 +14,7 @@ ghost use Rattle.getmail_setup.specs.Listed.{
   HasSameRows,
   IsFresh,
   large_in,
-  size_in,
+  large_size,
   size_over,
   without_end,
 };
@@ -140,7 +140,7 @@ impl Listed {
 
     /// The size of a message, if it is over the limit.
     fn size_of(&self, number: u32) -> Option<u64>
-        ensures { result ≡ size_in self.now.sizes.items number }
+        ensures { result ≡ large_size self.now.sizes.items number }
     {
         let (_, size) = self.sizes.iter().find(|(listed, _)| *listed == number)?;
         Some(*size)
