@@ -1,2 +1,4 @@
 mod EarlyLemmas
+mod FindingsLemmas
+mod NewsLemmas
 mod OutputLemmas

@@ -1,6 +1,7 @@
 -- A run over devices that are made for it.
 use Rattle.std.specs.{
-  Prelude.{◌≡◌, ◌⊎◌, ℕ, Bool, true, List, Option},
+  Prelude.{◌≡◌, ◌⊎◌, ℕ, Bool, true, List, None, Option, Some},
+  Borrow.Bor,
   String.string_bytes,
   declared.time.SystemTime.SystemTime,
 }
@@ -14,8 +15,10 @@ use Rattle.fetch_session.specs.{Account.{Holding, IsSameAccount}, declared.{acco
 use Rattle.fetch_rules.specs.declared.plans.Step.{Step}
 use Rattle.getmail_setup.specs.{
   Clock.second_of,
-  Failures.status_of,
-  declared.{errors.Errors.Errors, failure.Failure.Failure, output.{Output.Output, OutputRefusal.OutputRefusal}},
+  Failures.{TellsFailure, status_of},
+  InPlace.IsOtherList,
+  declared.{errors.Errors.Errors, failure.Failure.{Failure, TheVariants.{NoMemory, OtherList}}},
+  declared.output.{Output.Output, OutputRefusal.OutputRefusal},
   declared.setup.{Paths.Paths, Setup.Setup},
 }
 use Rattle.getmail_program.specs.{
@@ -71,3 +74,22 @@ EndsBefore setup is_unattended status =
 abbrev pub Runs : {W D F : Type 0} → WireGhosts W → DiskGhosts D → FileGhosts F → Setup → Bool → ℕ → Type 0
 Runs link disk file setup is_unattended status =
     EndsBefore setup is_unattended status ⊎ HoldsSetup link disk file setup status
+
+-- a list was found: that was told, with its path and the record's
+pub record TellsList {E : Type 0} (contents : E → Option (List ℕ)) (setup : Setup) (list : List ℕ)
+    (old new : Errors E) : Type 0 where
+  pub path : Bor (List ℕ)
+  pub is_path : path.now ≡ list
+  pub record_path : Bor (List ℕ)
+  pub is_record : record_path.now ≡ string_bytes setup.paths.record
+  pub tells : TellsFailure contents (Some setup.settings) (OtherList path record_path) old new
+
+-- a run is stopped exactly if there is a list of what getmail6 fetched in whose place it is the first one; or for want
+-- of memory, which is told
+abbrev pub StopsInPlace : {E : Type 0} → (E → Option (List ℕ)) → (List ℕ → Bool → Type 0) → (List ℕ → Bool → Type 0)
+    → (List ℕ → List (List ℕ) → Type 0) → Setup → Errors E → Errors E → Option ℕ → Type 0
+StopsInPlace contents said said_free gave setup old new None =
+    IsOtherList said said_free gave setup None × (new ≡ old)
+StopsInPlace contents said said_free gave setup old new (Some status) =
+    ((list : List ℕ) × IsOtherList said said_free gave setup (Some list) × TellsList contents setup list old new)
+    ⊎ TellsFailure contents None NoMemory old new

@@ -1,6 +1,9 @@
 pub mod Devices
 pub mod Fetching
+pub mod Findings
 pub mod Holding
+pub mod News
+pub mod Noticing
 pub mod Reasons
 pub mod Rehearsal
 pub mod Starting

@@ -1,6 +1,12 @@
 -- What a rehearsal holds, and what it shows of the commands that it sends.
-use Rattle.std.specs.{Prelude.{◌≡◌, ℕ, true, false, List, ◌==◌, codes, if◌then◌else◌}, List.starts_with}
+use Rattle.std.specs.{
+  Prelude.{◌≡◌, ◌≢◌, ◌⊎◌, ◌++◌, ℕ, true, false, List, [], ◌==◌, codes, if◌then◌else◌},
+  Fmt.decimal,
+  List.starts_with,
+}
 use Rattle.pop3_wire.specs.declared.wire.Wire.{Ghosts as WireGhosts}
+use Rattle.mail_terms.specs.UniqueId.{IsLegalId}
+use Rattle.mail_store.specs.FileName.{stem, stem_of}
 use Rattle.mail_store.specs.declared.{
   maildir.disk.MaildirDisk.Ghosts as DiskGhosts,
   file.flat_file.FlatFile.Ghosts as FileGhosts,
@@ -13,6 +19,7 @@ use Rattle.rc_file.specs.{
 use Rattle.fetch_session.specs.{
   Account.Holding,
   Durable.RunsSession,
+  Text.outcome_number,
   declared.{account.Store.Store, report.{Outcome.{Outcome, TheVariants.Ended}, Report.Report}},
 }
 use Rattle.getmail_program.specs.Holding.{holding_of}
@@ -20,6 +27,27 @@ use Rattle.getmail_program.specs.Holding.{holding_of}
 -- a command as it is shown: PASS without its argument
 abbrev pub shown_of : List ℕ → List ℕ
 shown_of command = if starts_with (λ a b. a == b) command (codes "PASS ") then codes "PASS *" else command
+
+-- its line
+abbrev pub shown_line : List ℕ → List ℕ
+shown_line command = (codes "C: " ++ shown_of command) ++ codes "\n"
+
+-- a line is a command and CR LF; octets that don't end so are one too
+abbrev pub IsCommandIn : List ℕ → List ℕ → Type 0
+IsCommandIn line command =
+    (line ≡ command ++ codes "\r\n") ⊎ (((front : List ℕ) → line ≢ front ++ codes "\r\n") × (command ≡ line))
+
+-- the line of a stored file: the id of its message, if its name has one, and how many octets it has
+abbrev pub IsStoredLine : List ℕ → List ℕ → ℕ → List ℕ → Type 0
+IsStoredLine account name length line =
+    ((uid : List ℕ) × IsLegalId uid × (stem_of account uid ≡ stem name)
+    × (line ≡ (codes "stored " ++ uid) ++ (codes " " ++ (decimal length ++ codes "\n"))))
+    ⊎ (((uid : List ℕ) → IsLegalId uid → stem_of account uid ≢ stem name) × (line ≡ []))
+
+-- the last line: how the session came out
+abbrev pub rehearsal_end : Outcome → List ℕ
+rehearsal_end outcome = if outcome_number outcome == 0 then codes "ended\n"
+    else codes "cut " ++ (decimal (outcome_number outcome) ++ codes "\n")
 
 -- the settings of a rehearsal: all options at their defaults
 abbrev pub defaults : Content

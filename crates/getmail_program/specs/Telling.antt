@@ -11,6 +11,7 @@ use Rattle.fetch_session.specs.{
   Text.{fault_text, outcome_number},
 }
 use Rattle.fetch_rules.specs.declared.plans.Step.{Step}
+use Rattle.run_memory.specs.declared.run.Counts.{Counts}
 use Rattle.getmail_setup.specs.{
   declared.output.{Output.Output, OutputRefusal.{OutputRefusal, TheVariants.{NoMemory, Refused}}},
   declared.errors.Errors.Errors,
@@ -136,3 +137,7 @@ pub record TellsAll {O E : Type 0} (out_contents : O → Option (List ℕ)) (err
     : Type 0 where
   pub reported : Reported out_contents explains settings IsPlan told out out'
   pub errors : TellsErrors err_contents settings told out'.refusal old fetched new
+
+-- how many messages a session left out, of those that an unattended run counts
+abbrev pub counts_of : LeftOut → Counts
+counts_of left = record { past_limit = left.past_limit; repeated = left.repeated }

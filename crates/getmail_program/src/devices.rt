@@ -8,16 +8,11 @@ ghost use Rattle.getmail_program.specs.{Devices.StoreIs, Holding.kind_in};
 use fetch_rules::{Dest, Settings};
 use fetch_session::Store;
 use folder_store::{HostFile, HostFolder, HostMaildir, ProcessMark};
-use getmail_setup::{account_of, second_of};
+use getmail_setup::account_of;
 use mail_store::{FlatFile, MaildirDisk};
 use std::rt::{Clock, Files};
 use std::time::SystemTime;
 use system_calls::System;
-
-/// The second since 1970 that it is now.
-pub fn seconds_now(rt: &impl Clock) -> u64 {
-    second_of(SystemTime::now(rt).ok())
-}
 
 /// What makes the devices of a run.
 pub trait Devices<'a> {

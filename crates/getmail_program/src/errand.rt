@@ -1,22 +1,31 @@
 //! A run over devices that are made for it.
-ghost use Rattle.std.specs.{Prelude.{◌≡◌, ◌≤◌, Option}, declared.time.SystemTime.SystemTime};
+ghost use Rattle.std.specs.{
+  Prelude.{◌≡◌, ◌≤◌, ℕ, List, Option, Some, option_map},
+  String.string_bytes,
+  declared.time.SystemTime.SystemTime,
+};
 ghost use Rattle.rc_file.specs.Settings.{IsValid};
 ghost use Rattle.fetch_session.specs.{Account.IsSameAccount, Hearing.IsPlanOf};
-ghost use Rattle.getmail_setup.specs.Clock.{second_of};
+ghost use Rattle.getmail_setup.specs.{
+  Clock.second_of,
+  Failures.cause_line,
+  Output.Puts,
+  declared.journal.Subject.Subject,
+};
 ghost use Rattle.getmail_program.specs.{
   Fetching.{FetchesAt, TellsOf},
   Holding.{HoldsSession, holding_of},
-  Telling.TellsAll,
+  Noticing.{TakesEach, obstruction_lines, refusal_lines, rests_lines, unflushed_lines},
+  Telling.{TellsAll, counts_of},
   declared.told.Told.Told,
 };
 
 use crate::devices::Devices;
 use crate::ending::{Fetched, tell_all};
-use crate::reason::line_of;
 use crate::told::{RunTerms, Told, hold};
 use fetch_rules::Settings;
-use fetch_session::{Account, LeftOut, Store};
-use getmail_setup::{Errors, Output, Paths, ShownWire, Subject, second_of, tell_reason};
+use fetch_session::{Account, Report, Store};
+use getmail_setup::{Errors, Output, Paths, Reasons, ShownWire, Subject, second_of, tell_reason};
 use mail_store::{FlatFile, MaildirDisk};
 use pop3_wire::Wire;
 use run_memory::Counts;
@@ -52,81 +61,83 @@ impl<D: Drop, F: Drop> RunEnd<D, F> {
     }
 }
 
-/// Writes the line of a reason, if there is memory for it. An unattended run tells each by itself, whatever else it
-/// tells: once or, of what lasts, again each week.
-fn put_reason<E: Write>(
-    alloc: Global,
-    settings: &Settings,
-    reason: &[u8],
-    subject: Subject,
-    errors: &mut Errors<'_, E>,
-) {
-    if let Ok(line) = line_of(alloc, settings, reason) {
-        errors.err.put(line.as_slice());
-        errors.close(subject);
-    }
+/// What takes the lines that a run tells beside its fault.
+trait Notices {
+    // It took a line as a part of its own, which is about this.
+    ghost took: { Self → Subject → List ℕ → Self → Type 0 };
+
+    /// Takes a line on an account, with these words and a reason.
+    fn take_line(&mut self, settings: &Settings, subject: Subject, words: &str, reason: &[u8])
+        ensures { took self.old subject (cause_line (Some settings.now) words.now reason.now) self.new };
 }
 
-/// Writes why the store refused the run, unless that was told as the fault's reason.
-fn tell_store_refusal<E: Write>(alloc: Global, settings: &Settings, errors: &mut Errors<'_, E>) {
-    let Some(refusal) = errors.reasons.store.take() else {
-        return;
-    };
-    if let Ok(reason) = refusal.text(alloc) {
-        put_reason(alloc, settings, reason.as_slice(), Subject::Notice, errors);
+impl<'a, E: Write> Notices for Errors<'a, E> {
+    ghost took = { λ old subject line new. Puts E.contents old.err line new.err };
+
+    /// An unattended run tells each by itself, whatever else it tells: once or, of what lasts, again each week.
+    fn take_line(&mut self, settings: &Settings, subject: Subject, words: &str, reason: &[u8]) {
+        tell_reason(Some(settings), words, reason, &mut self.err);
+        self.close(subject);
     }
 }
 
 /// Before the path of the file in which is kept what was cut off from an mboxrd file.
 const KEPT: &str = "what was cut off from the mbox file is kept in ";
 
-/// Writes where is kept what was cut off from an mboxrd file; or what bears the name of a message in a
-/// Maildir and can't be opened, or refused the run: else nobody learns why that message isn't fetched, or why all
-/// later runs are refused too.
-fn tell_store<'a, M: Devices<'a>, E: Write>(
-    alloc: Global,
-    devices: &M,
-    left: &RunEnd<M::Maildir, M::File>,
-    rests: &str,
-    errors: &mut Errors<'_, E>,
-) {
-    if devices.keeps_rests(&left.store, left.fetched.is_idle) {
-        tell_reason(
-            Some(&left.settings),
-            KEPT,
-            rests.as_bytes(),
-            &mut errors.err,
-        );
-        errors.close(Subject::Notice);
-    }
-    for obstruction in devices.obstructions(&left.store) {
-        put_reason(alloc, &left.settings, obstruction, Subject::Lasting, errors);
-    }
-    if devices.is_name_taken(&left.store) {
-        tell_store_refusal(alloc, &left.settings, errors);
+/// Tells where is kept what was cut off from an mboxrd file, if something is.
+fn tell_rests<N: Notices>(settings: &Settings, is_kept: bool, rests: &str, notices: &mut N)
+    ensures { TakesEach N.took (rests_lines settings.now is_kept rests.now) notices.old notices.new }
+{
+    if is_kept {
+        notices.take_line(settings, Subject::Notice, KEPT, rests.as_bytes());
     }
 }
 
-/// Tells of a folder whose names weren't flushed because the system flushes no folders, if reasons are asked
-/// for and there is one: a loss of power may take back what was put there.
-fn tell_unflushed<'a, M: Devices<'a>, E: Write>(
+/// Tells what bears the name of a message in a Maildir and can't be opened: else nobody learns why that message isn't
+/// fetched.
+fn tell_obstructions<N: Notices>(settings: &Settings, obstructions: &[Vec<u8>], notices: &mut N)
+    ensures { TakesEach N.took (obstruction_lines settings.now obstructions.now) notices.old notices.new }
+{
+    let mut rest = obstructions;
+    while let [obstruction, behind @ ..] = rest {
+        notices.take_line(settings, Subject::Lasting, "", obstruction);
+        rest = behind;
+    }
+}
+
+/// Tells why the store refused the run, if that is known: else nobody learns why all later runs are refused too.
+fn tell_store_refusal<N: Notices>(settings: &Settings, reason: Option<Vec<u8>>, notices: &mut N)
+    ensures { TakesEach N.took (refusal_lines settings.now (option_map (λ reason. reason.items) reason))
+        notices.old notices.new }
+{
+    if let Some(reason) = reason {
+        notices.take_line(settings, Subject::Notice, "", &reason);
+    }
+}
+
+/// Tells of a folder whose names weren't flushed because the system flushes no folders, if there is one: a loss of
+/// power may take back what was put there.
+fn tell_unflushed<N: Notices>(settings: &Settings, path: Option<String>, notices: &mut N)
+    ensures { TakesEach N.took (unflushed_lines settings.now (option_map string_bytes path)) notices.old notices.new }
+{
+    if let Some(path) = path {
+        let reason = b": its file system flushes no folders";
+        notices.take_line(settings, Subject::Notice, path.as_str(), reason);
+    }
+}
+
+/// Why a delivery into a Maildir was refused because something that is no file has its name, unless that was told as
+/// the fault's reason.
+fn name_refusal<'a, M: Devices<'a>>(
     alloc: Global,
     devices: &M,
-    left: &RunEnd<M::Maildir, M::File>,
-    errors: &mut Errors<'_, E>,
-) {
-    let found = devices.unflushed(&left.store, &left.seen_file);
-    if let (true, Some(path)) = (errors.says_why, found) {
-        if let Ok(reason) = format!(in alloc; "{path}: its file system flushes no folders") {
-            put_reason(
-                alloc,
-                &left.settings,
-                reason.as_bytes(),
-                Subject::Notice,
-                errors,
-            );
-        }
+    store: &Store<M::Maildir, M::File>,
+    reasons: &Reasons,
+) -> Option<Vec<u8>> {
+    if !devices.is_name_taken(store) {
+        return None;
     }
+    reasons.store.take()?.text(alloc).ok()
 }
 
 /// Tells what a run left that somebody should look at, and removes what killed runs left, unless the run had nothing to
@@ -138,10 +149,22 @@ fn finish<'a, M: Devices<'a>, E: Write>(
     rests: &str,
     errors: &mut Errors<'_, E>,
 ) {
-    tell_store(alloc, devices, left, rests, errors);
-    tell_unflushed(alloc, devices, left, errors);
-    if !left.fetched.is_idle {
-        devices.sweep(&left.settings, &left.store, &left.seen_file);
+    let RunEnd {
+        settings,
+        store,
+        seen_file,
+        fetched,
+    } = left;
+    let is_kept = devices.keeps_rests(store, fetched.is_idle);
+    tell_rests(settings, is_kept, rests, errors);
+    tell_obstructions(settings, devices.obstructions(store), errors);
+    let refusal = name_refusal(alloc, devices, store, errors.reasons);
+    tell_store_refusal(settings, refusal, errors);
+    if errors.says_why {
+        tell_unflushed(settings, devices.unflushed(store, seen_file), errors);
+    }
+    if !fetched.is_idle {
+        devices.sweep(settings, store, seen_file);
     }
 }
 
@@ -161,6 +184,16 @@ fn shown<W: Wire, E: Write + Copy>(
     wire
 }
 
+/// How many messages a session left out, of those that an unattended run counts.
+fn counts_of(report: &Report) -> Counts
+    ensures { result ≡ counts_of report.now.left_out }
+{
+    Counts {
+        past_limit: u64::from(report.left_out.past_limit),
+        repeated: u64::from(report.left_out.repeated),
+    }
+}
+
 /// Has an unattended run know what its session left out.
 fn note_left_out<W: Wire, S: Write, E>(
     told: &Told,
@@ -169,16 +202,7 @@ fn note_left_out<W: Wire, S: Write, E>(
     errors: &Errors<'_, E>,
 ) {
     if let (Some(journal), Told::Done(report)) = (errors.journal, told) {
-        let LeftOut {
-            past_limit,
-            repeated,
-            ..
-        } = report.left_out;
-        let counts = Counts {
-            past_limit: u64::from(past_limit),
-            repeated: u64::from(repeated),
-        };
-        journal.note_left_out(wire.listed(), settings.max_size, counts);
+        journal.note_left_out(wire.listed(), settings.max_size, counts_of(report));
     }
 }
 

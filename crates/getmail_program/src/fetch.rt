@@ -4,18 +4,18 @@ ghost use Rattle.rc_file.specs.Settings.{IsValid};
 ghost use Rattle.getmail_setup.specs.declared.failure.Failure.{Failure};
 ghost use Rattle.getmail_setup.specs.{Failures.status_of, Lock.goes_on, Places.IsSetUp};
 ghost use Rattle.system_calls.specs.declared.system.System.{System};
-ghost use Rattle.getmail_program.specs.{Fetching.{EndsBefore, HoldsSetup, Runs}, Starting.Starts};
+ghost use Rattle.getmail_program.specs.{Fetching.{EndsBefore, HoldsSetup, Runs, StopsInPlace}, Starting.Starts};
 
-use crate::devices::{HostDevices, seconds_now};
+use crate::devices::HostDevices;
 use crate::errand::{Errand, fetch_at};
-use crate::news::met_before;
+use crate::news_file::{HostPast, Waiting, patience};
 use fetch_rules::Settings;
 use file_reading::ReadFile;
 use folder_store::{HostFile, HostFolder, HostMaildir, ProcessMark};
 use getmail_setup::{
-    Connection, Errors, Failure, Journal, Link, Lock, OnMachine, Output, Peer, Reasons, Setup,
-    SystemLocks, Words, connect, fail, failure_of, home, is_long_held, link_over, other_list,
-    peer_of, set_up, take_lock, warn_of_network,
+    Connection, Errors, Failure, Link, Lock, LookAt, OnMachine, Output, Peer, Reasons, Setup,
+    SystemLocks, Words, connect, fail, failure_of, home, link_over, other_list, peer_of, set_up,
+    take_lock, warn_of_network,
 };
 use mail_store::{FlatFile, MaildirDisk};
 use pop3_wire::Wire;
@@ -99,28 +99,24 @@ where
     fetch_at(rt, devices, errand, link, &mut out, errors)
 }
 
-/// Whether an unattended run says nothing of another one that has the lock: not for the first hour. If the lock's own
-/// mark isn't known or is still to come, that begins at the first run that met it.
-fn is_patient<R: Files + Env + Clock + AllocGlobal>(
-    rt: &R,
-    words: &Words,
-    reasons: &Reasons,
-    journal: Option<&Journal>,
-) -> bool
+/// Whether an unattended run leaves the account to another one that has the lock, and says nothing of it.
+fn leaves_to_other<R, E>(machine: &Machine<'_, R>, words: &Words, errors: &Errors<'_, E>) -> bool
+where
+    R: Files + Env + Clock + RandomSource + AllocGlobal + Clone + Drop,
     ensures { result ≡ true → (words.now.unattended && not words.now.pretend) ≡ true }
 {
     if !is_unattended(words) {
         return false;
     }
-    let now = seconds_now(rt);
-    let held = reasons.held_since.get().unwrap_or(0);
-    if held != 0 && held <= now {
-        return !is_long_held(held, 0, now);
-    }
-    if let Some(journal) = journal {
+    let past = HostPast::new(machine.rt, machine.process, words);
+    let Waiting {
+        is_patient,
+        has_met,
+    } = patience(&past, errors.reasons.held_since.get());
+    if let (true, Some(journal)) = (has_met, errors.journal) {
         journal.note_met();
     }
-    !is_long_held(0, met_before(rt, words), now)
+    is_patient
 }
 
 /// Has an unattended run know its account, and the mark of the files that it makes.
@@ -141,20 +137,23 @@ pub fn is_unattended(words: &Words) -> bool
 }
 
 /// Stops a first run in getmail6's place, which would fetch all mail again: says so, and returns the exit status.
-fn stop_in_place<R: Files + AllocGlobal + Clone + Drop, E: Write>(
-    rt: &R,
+fn stop_in_place<F: LookAt, E: Write>(
+    alloc: Global,
+    files: &F,
     setup: &Setup,
     errors: &mut Errors<'_, E>,
 ) -> Option<u8>
-    ensures { IfSome result (λ status. ((failure : Failure) × (status ≡ status_of failure)) × (status ≤ 2)) }
+    ensures status { IfSome result (λ status. ((failure : Failure) × (status ≡ status_of failure)) × (status ≤ 2)) }
+    ensures stops { StopsInPlace E.contents (F.said files.now) (F.said_free files.now) (F.gave files.now) setup.now
+        errors.old errors.new result }
 {
-    let list = match other_list(rt.alloc(), &OnMachine { rt }, setup) {
+    let list = match other_list(alloc, files, setup) {
         Ok(Some(list)) => list,
         Ok(None) => return None,
-        Err(_) => return Some(fail(rt.alloc(), Failure::NoMemory, None, errors)),
+        Err(_) => return Some(fail(alloc, Failure::NoMemory, None, errors)),
     };
     let failure = Failure::OtherList(list.as_str(), setup.paths.record.as_str());
-    Some(fail(rt.alloc(), failure, Some(&setup.settings), errors))
+    Some(fail(alloc, failure, Some(&setup.settings), errors))
 }
 
 /// Sets a run up from the rc file that the words name, and takes its lock. If it isn't to go on, says why, and returns
@@ -185,7 +184,7 @@ where
         Ok(setup) => setup,
         Err(failure) => return Err(fail(alloc, failure, None, errors)),
     };
-    if let Some(status) = stop_in_place(rt, &setup, errors) {
+    if let Some(status) = stop_in_place(alloc, &OnMachine { rt }, &setup, errors) {
         return Err(status);
     }
     let prepared = match prepare(rt, machine.process, &setup.settings) {
@@ -195,7 +194,7 @@ where
     note_names(alloc, &setup, &prepared, errors);
     let lock = take_lock(alloc, &SystemLocks { rt, reasons }, &setup, errors);
     if let Lock::Elsewhere = &lock {
-        if is_patient(rt, words, reasons, errors.journal) {
+        if leaves_to_other(machine, words, errors) {
             return Err(0);
         }
         return Err(fail(alloc, Failure::AtWork, Some(&setup.settings), errors));

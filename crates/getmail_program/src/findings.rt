@@ -1,7 +1,30 @@
 //! What was noted of a session that a fault cut.
+ghost use Rattle.std.specs.{
+  Prelude.{◌≡◌, ◌≤◌, ◌⊎◌, ◌++◌, ◌↔◌, IfOk, IsTrue, codes, length},
+  IoError.error_kind,
+  List.prefix_len,
+  String.string_bytes,
+};
+ghost use Rattle.getmail_program.specs.Findings.{
+  FindsOn,
+  HasNothing,
+  IsCopy,
+  IsDeniedIn,
+  IsFolderIn,
+  IsTextFront,
+  IsPlace,
+  IsRecordFolder,
+  IsRecordPlace,
+  IsStorePlace,
+  folder_end,
+  is_in_name,
+  is_slash,
+  name_end,
+};
+
 use crate::told::RunTerms;
 use fetch_session::{Fault, Outcome, Why};
-use getmail_setup::{Errors, SILENT};
+use getmail_setup::{Errors, Reasons, SILENT};
 use std::alloc::{AllocError, Global};
 use std::io::ErrorKind;
 use system_calls::Refusal;
@@ -22,33 +45,92 @@ pub struct Findings {
     pub record: String,
 }
 
-/// What a call of the link was refused for, which waits for a limited time.
-fn waited(alloc: Global, refusal: &Refusal) -> Result<Vec<u8>, AllocError> {
-    if refusal.error.kind() != ErrorKind::WouldBlock {
-        return refusal.text(alloc);
-    }
-    let path = refusal.path.as_str();
+/// Whether a call was refused since it waited for a limited time.
+fn has_waited(refusal: &Refusal) -> bool
+    ensures { IsTrue result ↔ error_kind refusal.now.error ≡ ErrorKind.WouldBlock }
+{
+    refusal.error.kind() == ErrorKind::WouldBlock
+}
+
+/// What is said of the other end of a link that was silent for that time.
+fn silent_text(alloc: Global, path: &str) -> Result<Vec<u8>, AllocError>
+    ensures { IfOk result (λ text. text.items ≡ path.now ++ codes ": silent for 180 seconds") }
+{
     let text = format!(in alloc; "{path}: {SILENT}")?;
     Vec::from_slice(alloc, text.as_bytes())
 }
 
-/// The folder of a Maildir in which something is missing or may not be written, of which the path leads there; the
-/// path itself if it leads nowhere below the destination.
-fn folder_in<'a>(path: &'a str, destination: &str) -> &'a str {
-    let Some(below) = path.strip_prefix(destination) else {
-        return path;
-    };
-    let name = below.trim_start_matches('/');
-    let front = path.len().saturating_sub(name.len());
-    let end = name.split('/').next().unwrap_or("").len();
-    path.get(..front.saturating_add(end)).unwrap_or(path)
+/// What a call was refused for.
+fn waited(alloc: Global, refusal: &Refusal) -> Result<Vec<u8>, AllocError>
+    ensures { error_kind refusal.now.error ≡ ErrorKind.WouldBlock → IfOk result (λ text. text.items
+        ≡ string_bytes refusal.now.path ++ codes ": silent for 180 seconds") }
+{
+    if has_waited(refusal) {
+        return silent_text(alloc, refusal.path.as_str());
+    }
+    refusal.text(alloc)
+}
+
+/// How many slashes octets begin with.
+fn leading_slashes(octets: &[u8]) -> usize
+    ensures value { result ≡ prefix_len is_slash octets.now }
+    ensures fits { result ≤ length octets.now }
+{
+    octets.iter().take_while(|octet| **octet == b'/').count()
+}
+
+/// How long the name is that octets begin with.
+fn name_length(octets: &[u8]) -> usize
+    ensures value { result ≡ prefix_len is_in_name octets.now }
+    ensures fits { result ≤ length octets.now }
+{
+    octets.iter().take_while(|octet| **octet != b'/').count()
+}
+
+/// Where the first name in octets ends, that may have slashes before it.
+fn name_end(octets: &[u8]) -> usize
+    ensures value { result ≡ name_end octets.now }
+    ensures fits { result ≤ length octets.now }
+{
+    let slashes = leading_slashes(octets);
+    slashes + name_length(&octets[slashes..])
+}
+
+/// Where the folder of a Maildir ends in a path that leads there; at the path's end if it leads nowhere below the
+/// destination.
+fn folder_end(path: &[u8], destination: &[u8]) -> usize
+    ensures { result ≡ folder_end path.now destination.now }
+{
+    if !path.starts_with(destination) {
+        return path.len();
+    }
+    destination.len() + name_end(&path[destination.len()..])
+}
+
+/// So many octets of a text; all of it if they cut a character.
+fn front(text: &str, length: usize) -> &str
+    ensures { IsTextFront text.now length result.now }
+{
+    match text.get(..length) {
+        Some(front) => front,
+        None => text,
+    }
+}
+
+/// The folder of a Maildir in which something is missing or may not be written, of which the path leads there.
+fn folder_in<'a>(path: &'a str, destination: &str) -> &'a str
+    ensures { IsFolderIn path.entry.now destination.now result.now }
+{
+    front(path, folder_end(path.as_bytes(), destination.as_bytes()))
 }
 
 /// The folder of a Maildir that may not be read or written, of which the path leads there. A name goes from `tmp` to
 /// `new`, and which of them refused it isn't known: then it is the Maildir.
-fn denied_in<'a>(path: &'a str, destination: &'a str) -> &'a str {
+fn denied_in<'a>(path: &'a str, destination: &'a str) -> &'a str
+    ensures { IsDeniedIn path.entry.now destination.entry.now result.now }
+{
     let folder = folder_in(path, destination);
-    if folder.ends_with("/tmp") {
+    if folder.as_bytes().ends_with(b"/tmp") {
         destination
     } else {
         folder
@@ -56,8 +138,10 @@ fn denied_in<'a>(path: &'a str, destination: &'a str) -> &'a str {
 }
 
 /// The folder of the record, if a path isn't the record's.
-fn record_folder<'a>(path: &'a str, record: &str) -> &'a str {
-    if path == record {
+fn record_folder<'a>(path: &'a str, record: &str) -> &'a str
+    ensures { IsRecordFolder path.entry.now record.now result.now }
+{
+    if path.as_bytes() == record.as_bytes() {
         return path;
     }
     match path.rsplit_once('/') {
@@ -66,51 +150,115 @@ fn record_folder<'a>(path: &'a str, record: &str) -> &'a str {
     }
 }
 
+/// The path that a refused call of the store is told with.
+fn place_in_store<'a>(why: Why, is_denied: bool, path: &'a str, destination: &'a str) -> &'a str
+    ensures { IsStorePlace why is_denied path.entry.now destination.entry.now result.now }
+{
+    match why {
+        Why::Missing => {
+            if is_denied {
+                return denied_in(path, destination);
+            }
+            folder_in(path, destination)
+        }
+        Why::Refused => {
+            if is_denied {
+                return denied_in(path, destination);
+            }
+            path
+        }
+        Why::NotMbox => path,
+    }
+}
+
+/// The path that a refused call of the record is told with.
+fn place_at_record<'a>(is_denied: bool, path: &'a str, record: &str) -> &'a str
+    ensures { IsRecordPlace is_denied path.entry.now record.now result.now }
+{
+    if is_denied {
+        return record_folder(path, record);
+    }
+    path
+}
+
+/// The path that a fault is told with: of the folder in which something is missing or may not be written, and not of a
+/// file that was never there.
+fn place_of(
+    alloc: Global,
+    fault: &Fault,
+    is_denied: bool,
+    path: &str,
+    terms: &RunTerms<'_>,
+) -> Result<String, AllocError>
+    ensures { IfOk result (λ place. IsPlace fault.now is_denied path.now terms.now.destination.now
+        terms.now.record.now (string_bytes place)) }
+{
+    match fault {
+        Fault::StoreRefused(why) => {
+            let place = place_in_store(*why, is_denied, path, terms.destination);
+            Ok(String::from_str(alloc, place)?)
+        }
+        Fault::SeenRefused => {
+            Ok(String::from_str(alloc, place_at_record(is_denied, path, terms.record))?)
+        }
+        _ => Ok(String::from_str(alloc, path)?),
+    }
+}
+
 /// Whether something was refused for want of rights.
-fn is_denied(refusal: &Refusal) -> bool {
+fn is_denied(refusal: &Refusal) -> bool
+    ensures { IsTrue result ↔ error_kind refusal.now.error ≡ ErrorKind.PermissionDenied }
+{
     refusal.error.kind() == ErrorKind::PermissionDenied
 }
 
-/// Whether a refusal is about the folder of its path, and not about a file that was never there.
-fn is_of_folder(refusal: &Refusal, fault: &Fault) -> bool {
-    matches!(fault, Fault::StoreRefused(Why::Missing)) || is_denied(refusal)
+/// What was refused to the device that a fault is of. It is taken out.
+fn refusal_for(reasons: &Reasons, fault: &Fault) -> Option<Refusal> {
+    match fault {
+        Fault::ReadFailed | Fault::WriteFailed => reasons.link.take(),
+        Fault::StoreRefused(Why::Missing | Why::Refused) => reasons.store.take(),
+        Fault::SeenRefused => reasons.record.take(),
+        _ => None,
+    }
 }
 
-/// What was refused to the device that a fault is of. Its path is that of the folder in which something is missing or
-/// may not be written, and not of a file that was never there.
-fn refusal_for<E>(
+/// A copy of a text; empty if there is no memory for it.
+fn copied(alloc: Global, text: &str) -> String
+    ensures { IsCopy text.now (string_bytes result) }
+{
+    match String::from_str(alloc, text) {
+        Ok(copy) => copy,
+        Err(_) => String::new(alloc),
+    }
+}
+
+/// A refusal with the path that its fault is told with; with its own if there is no memory for that.
+fn with_place(
     alloc: Global,
-    errors: &Errors<'_, E>,
+    refusal: Refusal,
+    is_denied: bool,
     fault: &Fault,
     terms: &RunTerms<'_>,
-) -> Option<Refusal> {
-    let reasons = errors.reasons;
-    let refusal = match fault {
-        Fault::ReadFailed | Fault::WriteFailed => return reasons.link.take(),
-        Fault::StoreRefused(Why::Missing | Why::Refused) => reasons.store.take()?,
-        Fault::SeenRefused => reasons.record.take()?,
-        _ => return None,
-    };
-    if !is_of_folder(&refusal, fault) {
-        return Some(refusal);
-    }
-    let path = refusal.path.as_str();
-    let folder = match fault {
-        Fault::SeenRefused => record_folder(path, terms.record),
-        _ if is_denied(&refusal) => denied_in(path, terms.destination),
-        _ => folder_in(path, terms.destination),
-    };
-    match String::from_str(alloc, folder) {
-        Ok(path) => Some(Refusal {
+) -> Refusal
+    ensures error { result.error ≡ refusal.error }
+    ensures place { (string_bytes result.path ≡ string_bytes refusal.path)
+        ⊎ IsPlace fault.now is_denied (string_bytes refusal.path) terms.now.destination.now terms.now.record.now
+        (string_bytes result.path) }
+{
+    match place_of(alloc, fault, is_denied, refusal.path.as_str(), terms) {
+        Ok(path) => Refusal {
             path,
             error: refusal.error,
-        }),
-        Err(_) => Some(refusal),
+        },
+        Err(_) => refusal,
     }
 }
 
 /// What was refused, in words. An unattended run takes faults of one path for the same.
-fn refused<E>(alloc: Global, refusal: &Refusal, errors: &Errors<'_, E>) -> Vec<u8> {
+fn refused<E>(alloc: Global, refusal: &Refusal, errors: &Errors<'_, E>) -> Vec<u8>
+    ensures { error_kind refusal.now.error ≡ ErrorKind.WouldBlock
+        → IsCopy (string_bytes refusal.now.path ++ codes ": silent for 180 seconds") result.items }
+{
     if let Some(journal) = errors.journal {
         journal.note_place(refusal.path.as_str());
     }
@@ -120,16 +268,25 @@ fn refused<E>(alloc: Global, refusal: &Refusal, errors: &Errors<'_, E>) -> Vec<u
     }
 }
 
-/// A copy of a path; empty if there is no memory for it.
-fn copied(alloc: Global, path: &str) -> String {
-    match String::from_str(alloc, path) {
-        Ok(path) => path,
-        Err(_) => String::new(alloc),
-    }
+/// What was refused to the device that a fault is of, in words, and whether it was for want of rights.
+fn refused_to<E>(
+    alloc: Global,
+    fault: &Fault,
+    terms: &RunTerms<'_>,
+    errors: &Errors<'_, E>,
+) -> (Vec<u8>, bool) {
+    let Some(refusal) = refusal_for(errors.reasons, fault) else {
+        return (Vec::new(alloc), false);
+    };
+    let is_denied = is_denied(&refusal);
+    let refusal = with_place(alloc, refusal, is_denied, fault, terms);
+    (refused(alloc, &refusal, errors), is_denied)
 }
 
 /// Nothing was noted.
-fn nothing(alloc: Global) -> Findings {
+fn nothing(alloc: Global) -> Findings
+    ensures { HasNothing result }
+{
     Findings {
         said: Said::new(alloc),
         refused: Vec::new(alloc),
@@ -145,20 +302,19 @@ pub fn findings_on<E>(
     outcome: &Outcome,
     terms: &RunTerms<'_>,
     errors: &Errors<'_, E>,
-) -> Findings {
+) -> Findings
+    ensures { FindsOn errors.now.says_why outcome.now terms.now.destination.now terms.now.record.now result }
+{
     let (Outcome::Cut(fault), true) = (outcome, errors.says_why) else {
         return nothing(alloc);
     };
-    let mut found = Findings {
-        said: errors.reasons.talk.take(),
-        refused: Vec::new(alloc),
-        is_denied: false,
+    let said = errors.reasons.talk.take();
+    let (refused, is_denied) = refused_to(alloc, fault, terms, errors);
+    Findings {
+        said,
+        refused,
+        is_denied,
         destination: copied(alloc, terms.destination),
         record: copied(alloc, terms.record),
-    };
-    if let Some(refusal) = refusal_for(alloc, errors, fault, terms) {
-        found.refused = refused(alloc, &refusal, errors);
-        found.is_denied = is_denied(&refusal);
     }
-    found
 }

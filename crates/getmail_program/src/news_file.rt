@@ -1,12 +1,120 @@
-//! The file that keeps what unattended runs told.
+//! What unattended runs told before: the file that keeps it, and the clock by which it is told again.
+ghost use Rattle.std.specs.{
+  Prelude.{◌≡◌, ◌≢◌, ℕ, Bool, true, List, Option, Result, Ok, IfErr, IfOk, IsErr, MatchOption},
+  IoError.error_kind,
+  declared.{alloc.AllocError.AllocError, time.SystemTime.SystemTime},
+};
+ghost use Rattle.run_memory.specs.{Memory.{Told, nothing, told_in}, Times.is_void};
+ghost use Rattle.getmail_program.specs.News.{HasPatience, mark_of, met_in};
+
 use file_reading::ReadFile;
 use folder_store::{HostFile, ProcessMark};
+use getmail_setup::{Words, home, is_long_held, second_of, told_path};
 use mail_store::FlatFile;
 use run_memory::{MOST_OCTETS, Memory};
-use std::alloc::AllocError;
+use std::alloc::{AllocError, Global};
+use std::env::Env;
 use std::io::{self, ErrorKind};
+use std::process::Process;
+use std::random::RandomSource;
 use std::rt::{Clock, Files};
-use system_calls::System;
+use std::time::SystemTime;
+use system_calls::{Refusals, System};
+
+/// What earlier unattended runs told, and where it is kept what this one tells.
+pub trait Past {
+    // It gave this of what earlier runs told, or memory ran out.
+    ghost gave: { Self → Result Told AllocError → Type 0 };
+
+    // It was asked to keep these octets, and did so or not.
+    ghost kept: { Self → List ℕ → Bool → Type 0 };
+
+    // Its clock showed this time, or couldn't be read.
+    ghost showed: { Self → Option SystemTime → Type 0 };
+
+    /// What earlier runs told.
+    fn memory(&self) -> Result<Memory, AllocError>
+        ensures { gave self.now result };
+
+    /// Keeps these octets, and whether that was done.
+    fn keep(&self, octets: &[u8]) -> bool
+        ensures { kept self.now octets.now result };
+
+    /// What its clock shows, if it can be read.
+    fn time(&self) -> Option<SystemTime>
+        ensures { showed self.now result };
+}
+
+/// What an unattended run makes of another one that has the lock.
+pub struct Waiting {
+    /// Whether it says nothing of it.
+    pub is_patient: bool,
+    /// Whether this run counts as one that met it, since the other's own mark isn't known.
+    pub has_met: bool,
+}
+
+/// Since when another run's lock is met, as earlier runs kept it, if that is asked for; 0 if it isn't known.
+fn met_since<P: Past>(past: &P, is_asked: bool) -> u64
+    ensures { is_asked ≡ true → (memory : Result Told AllocError) × P.gave past.now memory × (result ≡ met_in memory) }
+{
+    if !is_asked {
+        return 0;
+    }
+    match past.memory() {
+        Ok(memory) => memory.met(),
+        Err(_) => 0,
+    }
+}
+
+/// Whether a mark counts as none: there is none, or it is still to come.
+fn is_void(mark: u64, now: u64) -> bool
+    ensures { result ≡ is_void mark now }
+{
+    mark == 0 || now < mark
+}
+
+/// Nothing is said of another run for the first hour since it took the lock at a mark. If that mark isn't known or is
+/// still to come, the hour begins at the first run that met it.
+pub fn patience<P: Past>(past: &P, held: Option<u64>) -> Waiting
+    ensures { HasPatience (P.gave past.now) (P.showed past.now) (mark_of held) result }
+{
+    let now = second_of(past.time());
+    let held = held.unwrap_or(0);
+    let has_met = is_void(held, now);
+    let met = met_since(past, has_met);
+    Waiting {
+        is_patient: !is_long_held(held, met, now),
+        has_met,
+    }
+}
+
+/// What a file says of earlier runs, by what was read of it: nothing if there is none, or another one.
+fn memory_in(alloc: Global, answer: &io::Result<Option<Vec<u8>>>) -> Result<Memory, AllocError>
+    ensures read { IfOk answer.now (λ found. MatchOption found (result ≡ Ok nothing)
+        (λ octets. IfOk result (λ memory. memory ≡ told_in octets.items))) }
+    ensures lack { IfErr answer.now (λ error. error_kind error ≡ ErrorKind.OutOfMemory → IsErr result) }
+    ensures other { IfErr answer.now (λ error. error_kind error ≢ ErrorKind.OutOfMemory → result ≡ Ok nothing) }
+{
+    match answer {
+        Ok(Some(octets)) => Memory::read(alloc, octets),
+        Err(error) if error.kind() == ErrorKind::OutOfMemory => Err(AllocError),
+        _ => Ok(Memory::new(alloc)),
+    }
+}
+
+/// What earlier runs told, by a machine's files.
+#[derive(Drop)]
+pub struct HostPast<'a, R> {
+    rt: &'a R,
+    process: Process,
+    path: Option<String>,
+}
+
+/// The path of the file that keeps what was told, if it is known.
+fn path_of<R: Env + AllocGlobal>(rt: &R, words: &Words) -> Option<String> {
+    let home = home(rt).ok()?;
+    told_path(rt.alloc(), home.as_deref(), words).ok()
+}
 
 /// The octets at a path, if there is a file.
 fn octets_at<R: Files + AllocGlobal>(
@@ -19,28 +127,65 @@ fn octets_at<R: Files + AllocGlobal>(
     Ok(Some(system.read(path, MOST_OCTETS)?))
 }
 
-/// What earlier runs told, by the file at a path: nothing if there is none, or another one.
-pub fn memory_at<R: Files + AllocGlobal>(
-    system: &System<'_, R>,
+/// Writes these octets to the file at a path, and whether that was done.
+fn keep_at<R: Files + Clock + RandomSource + AllocGlobal + Clone + Drop>(
+    rt: &R,
+    process: Process,
     path: &str,
-) -> Result<Memory, AllocError> {
-    let alloc = system.alloc();
-    match octets_at(system, path) {
-        Ok(Some(octets)) => Memory::read(alloc, &octets),
-        Err(error) if error.kind() == ErrorKind::OutOfMemory => Err(AllocError),
-        _ => Ok(Memory::new(alloc)),
+    octets: &[u8],
+) -> bool {
+    let Ok(mark) = ProcessMark::new(process, rt) else {
+        return false;
+    };
+    let refusals = Refusals::new(rt.alloc(), None);
+    let system = System::new(rt, &refusals);
+    let mut file = HostFile::at(&system, path, mark);
+    let is_kept = file.replace(octets).is_ok();
+    file.sweep();
+    is_kept
+}
+
+impl<'a, R: Env + AllocGlobal> HostPast<'a, R> {
+    /// What is kept for the rc file that these words name.
+    pub fn new(rt: &'a R, process: Process, words: &Words) -> HostPast<'a, R> {
+        HostPast {
+            rt,
+            process,
+            path: path_of(rt, words),
+        }
     }
 }
 
-/// Writes these octets to the file at a path, and whether that was done.
-pub fn keep_at<R: Files + Clock + AllocGlobal + Clone + Drop>(
-    system: &System<'_, R>,
-    path: &str,
-    mark: ProcessMark,
-    text: &[u8],
-) -> bool {
-    let mut file = HostFile::at(system, path, mark);
-    let is_kept = file.replace(text).is_ok();
-    file.sweep();
-    is_kept
+impl<'a, R> Past for HostPast<'a, R>
+where
+    R: Files + Env + Clock + RandomSource + AllocGlobal + Clone + Drop,
+{
+    ghost gave = { λ _ _. Unit {0} };
+
+    ghost kept = { λ _ _ _. Unit {0} };
+
+    ghost showed = { λ _ _. Unit {0} };
+
+    fn memory(&self) -> Result<Memory, AllocError> {
+        let alloc = self.rt.alloc();
+        let Some(path) = &self.path else {
+            return Ok(Memory::new(alloc));
+        };
+        let refusals = Refusals::new(alloc, None);
+        memory_in(
+            alloc,
+            &octets_at(&System::new(self.rt, &refusals), path.as_str()),
+        )
+    }
+
+    fn keep(&self, octets: &[u8]) -> bool {
+        match &self.path {
+            Some(path) => keep_at(self.rt, self.process, path.as_str(), octets),
+            None => false,
+        }
+    }
+
+    fn time(&self) -> Option<SystemTime> {
+        SystemTime::now(self.rt).ok()
+    }
 }

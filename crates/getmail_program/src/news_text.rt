@@ -1,165 +1,235 @@
-//! The words of what an unattended run tells beside what any run says. Each line names the account.
+//! What faults and notices are known by, and the lines of what an unattended run tells beside what any run says. Each
+//! line names the account.
+ghost use Rattle.std.specs.{Prelude.{◌≡◌, IfOk}, Fmt.decimal, List.before_first, String.string_bytes};
+ghost use Rattle.mail_terms.specs.Text.{is_line_feed};
+ghost use Rattle.getmail_program.specs.News.{
+  IsAgain,
+  IsDate,
+  IsEnd,
+  IsLimited,
+  IsMended,
+  IsReached,
+  IsSeen,
+  account_line,
+  fault_key,
+  mended_words,
+  too_large_line,
+  notice_key,
+  reached_words,
+  repeated_line,
+  seen_words,
+  utf8_in,
+  unnamed_line,
+};
+
 use getmail_setup::{Large, Part};
 use httpdate::{HttpDate, fmt_http_date};
 use mail_store::account_id;
+use mail_terms::cut_text;
 use run_memory::{Key, Telling, Times};
 use std::alloc::{AllocError, Global};
 use std::str;
-use std::time::{Duration, UNIX_EPOCH};
 
 /// Octets as text; empty if they aren't UTF-8.
-fn text_in(octets: &[u8]) -> &str {
-    str::from_utf8(octets).unwrap_or("")
+#[tactic(auto, using(crate::proofs::NewsLemmas::text_of_utf8, crate::proofs::NewsLemmas::text_of_other))]
+fn utf8_in(octets: &[u8]) -> &str
+    ensures { result.now ≡ utf8_in octets.now }
+{
+    match str::from_utf8(octets) {
+        Ok(text) => text,
+        Err(_) => "",
+    }
 }
 
-/// The key of a line that is about a path: a digest of both.
-fn key(line: &str, path: &str) -> Key {
-    Key::new(account_id(line, 0, path).as_str())
+/// The first line of a text.
+#[tactic(auto, using(crate::proofs::NewsLemmas::line_of_none))]
+fn first_line(text: &[u8]) -> &[u8]
+    ensures { result.now ≡ before_first is_line_feed text.now }
+{
+    if text.is_empty() {
+        return text;
+    }
+    cut_text(text).0
 }
 
 /// What a fault is known by: its line, without the lines of its reason, and the path that it is about.
-pub fn key_of(part: &Part) -> Key {
-    let line = text_in(&part.text).split('\n').next().unwrap_or("");
-    key(line, text_in(&part.place))
+pub fn fault_key(part: &Part) -> Key
+    ensures { result ≡ fault_key part.now }
+{
+    let line = utf8_in(first_line(&part.text));
+    Key::new(account_id(line, 0, utf8_in(&part.place)).as_str())
 }
 
 /// What a notice is known by: its text.
-pub fn notice_key(part: &Part) -> Key {
-    key(text_in(&part.text), "")
+pub fn notice_key(part: &Part) -> Key
+    ensures { result ≡ notice_key part.now }
+{
+    Key::new(account_id(utf8_in(&part.text), 0, "").as_str())
 }
 
-/// A date as a reader knows it; the second since 1970 if it is past the year 9999.
-fn date_of(alloc: Global, second: u64) -> Result<String, AllocError> {
-    if let Some(time) = UNIX_EPOCH.checked_add(Duration::from_secs(second)) {
-        if let Ok(date) = HttpDate::try_from(time) {
-            return fmt_http_date(alloc, date);
-        }
-    }
-    format!(in alloc; "{second}")
+/// A number.
+fn number_text(alloc: Global, number: u64) -> Result<String, AllocError>
+    ensures { IfOk result (λ text. string_bytes text ≡ decimal number) }
+{
+    format!(in alloc; "{number}")
 }
 
-/// What is told, as it is put together.
-#[derive(Drop)]
-pub struct Teller {
-    alloc: Global,
-    account: Vec<u8>,
-    text: Vec<u8>,
-    lacks_memory: bool,
+/// A second since 1970 as a reader knows it: a date or, past the year 9999, its number.
+fn date_of(alloc: Global, second: u64) -> Result<String, AllocError>
+    ensures { IfOk result (λ date. IsDate second (string_bytes date)) }
+{
+    match HttpDate::from_unix_secs(second) {
+        Ok(date) => Ok(fmt_http_date(alloc, date)?),
+        Err(_) => Ok(number_text(alloc, second)?),
+    }
 }
 
-impl Teller {
-    /// Nothing is told yet.
-    pub fn new(alloc: Global, account: Vec<u8>) -> Teller {
-        Teller {
-            alloc,
-            account,
-            text: Vec::new(alloc),
-            lacks_memory: false,
-        }
-    }
-
-    /// What is told.
-    pub fn text(&self) -> &[u8] {
-        &self.text
-    }
-
-    /// Whether there was no memory for some of it.
-    pub fn lacks_memory(&self) -> bool {
-        self.lacks_memory
-    }
-
-    /// Tells these octets.
-    pub fn put(&mut self, octets: &[u8]) {
-        if self.text.extend_from_slice(octets).is_err() {
-            self.lacks_memory = true;
-        }
-    }
-
-    /// Tells a line that names the account.
-    fn put_line(&mut self, words: Result<String, AllocError>) {
-        let Ok(words) = words else {
-            self.lacks_memory = true;
-            return;
-        };
-        self.put(b"getmail: ");
-        if self.text.extend_from_slice(&self.account).is_err() {
-            self.lacks_memory = true;
-        }
-        self.put(b": ");
-        self.put(words.as_bytes());
-        self.put(b"\n");
-    }
-
-    /// Since when a fault is seen and how often, if it was told before.
-    pub fn put_again(&mut self, telling: &Telling) {
-        let Telling::Again(times) = telling else {
-            return;
-        };
-        let words = seen_since(self.alloc, times);
-        self.put_line(words);
-    }
-
-    /// Names a message that is over the size limit.
-    pub fn put_large(&mut self, message: &Large, limit: u64) {
-        let Large { number, size, .. } = *message;
-        let words = format!(in self.alloc;
-            "message {number} has {size} octets, more than max_message_size {limit}: it stays on the server"
-        );
-        self.put_line(words);
-    }
-
-    /// How many more messages are over the size limit, if that is told.
-    pub fn put_unnamed(&mut self, count: Option<u64>) {
-        if let Some(count) = count {
-            let words = format!(in self.alloc;
-                "{count} more messages are larger than max_message_size: they stay on the server"
-            );
-            self.put_line(words);
-        }
-    }
-
-    /// That each run of a day reached the limit on the number of messages, if that is told.
-    pub fn put_limited(&mut self, since: Option<u64>, left: u64) {
-        if let Some(since) = since {
-            let words = limited_since(self.alloc, since, left);
-            self.put_line(words);
-        }
-    }
-
-    /// How many messages have a repeated id, if that is told.
-    pub fn put_repeated(&mut self, count: Option<u64>) {
-        if let Some(count) = count {
-            let words = format!(in self.alloc; "left out: {count} with a repeated unique-id");
-            self.put_line(words);
-        }
-    }
-
-    /// Since when runs had failed that work again, if that is told.
-    pub fn put_end(&mut self, since: Option<u64>) {
-        if let Some(since) = since {
-            let words = failed_since(self.alloc, since);
-            self.put_line(words);
-        }
-    }
+/// A line that names the account.
+fn account_line(alloc: Global, account: &[u8], words: &str) -> Result<Vec<u8>, AllocError>
+    ensures { IfOk result (λ line. line.items ≡ account_line account.now words.now) }
+{
+    let mut line = Vec::from_slice(alloc, b"getmail: ")?;
+    line.extend_from_slice(account)?;
+    line.extend_from_slice(b": ")?;
+    line.extend_from_slice(words.as_bytes())?;
+    line.extend_from_slice(b"\n")?;
+    Ok(line)
 }
 
 /// Since when a fault is seen, and how often.
-fn seen_since(alloc: Global, times: &Times) -> Result<String, AllocError> {
-    let Times { since, runs, .. } = *times;
-    let date = date_of(alloc, since)?;
+fn seen_words(alloc: Global, date: &str, runs: u64) -> Result<String, AllocError>
+    ensures { IfOk result (λ words. string_bytes words ≡ seen_words runs date.now) }
+{
     format!(in alloc; "seen since {date}, in {runs} runs")
 }
 
+/// The line on that.
+fn seen_line(alloc: Global, account: &[u8], times: &Times) -> Result<Vec<u8>, AllocError>
+    ensures { IfOk result (λ line. IsSeen account.now times.now line.items) }
+{
+    let date = date_of(alloc, times.since)?;
+    let words = seen_words(alloc, date.as_str(), times.runs)?;
+    Ok(account_line(alloc, account, words.as_str())?)
+}
+
+/// What follows a fault: since when it is seen and how often, if it was told before.
+pub fn again_line(alloc: Global, account: &[u8], telling: &Telling) -> Result<Vec<u8>, AllocError>
+    ensures { IfOk result (λ line. IsAgain account.now telling.now line.items) }
+{
+    match telling {
+        Telling::First => Ok(Vec::new(alloc)),
+        Telling::Again(times) => Ok(seen_line(alloc, account, times)?),
+        Telling::Nothing => Ok(Vec::new(alloc)),
+    }
+}
+
+/// Names a message that is over the size limit.
+pub fn too_large_line(
+    alloc: Global,
+    account: &[u8],
+    limit: u64,
+    message: &Large,
+) -> Result<Vec<u8>, AllocError>
+    ensures { IfOk result (λ line. line.items ≡ too_large_line account.now limit message.now) }
+{
+    let Large { number, size, .. } = *message;
+    let words = format!(in alloc;
+        "message {number} has {size} octets, more than max_message_size {limit}: it stays on the server"
+    )?;
+    Ok(account_line(alloc, account, words.as_str())?)
+}
+
+/// How many more messages are over the size limit, if that is told.
+pub fn unnamed_line(
+    alloc: Global,
+    account: &[u8],
+    count: Option<u64>,
+) -> Result<Vec<u8>, AllocError>
+    ensures { IfOk result (λ line. line.items ≡ unnamed_line account.now count) }
+{
+    match count {
+        None => Ok(Vec::new(alloc)),
+        Some(count) => {
+            let words = format!(in alloc;
+                "{count} more messages are larger than max_message_size: they stay on the server"
+            )?;
+            Ok(account_line(alloc, account, words.as_str())?)
+        }
+    }
+}
+
 /// Since when each run reached the limit on the number of messages, and how many are left.
-fn limited_since(alloc: Global, since: u64, left: u64) -> Result<String, AllocError> {
-    let date = date_of(alloc, since)?;
+fn reached_words(alloc: Global, date: &str, left: u64) -> Result<String, AllocError>
+    ensures { IfOk result (λ words. string_bytes words ≡ reached_words left date.now) }
+{
     format!(in alloc;
         "each run since {date} reached max_messages_per_session: {left} messages are left"
     )
 }
 
-/// Since when runs had failed.
-fn failed_since(alloc: Global, since: u64) -> Result<String, AllocError> {
+/// The line on that.
+fn reached_line(alloc: Global, account: &[u8], left: u64, since: u64) -> Result<Vec<u8>, AllocError>
+    ensures { IfOk result (λ line. IsReached account.now left since line.items) }
+{
     let date = date_of(alloc, since)?;
+    let words = reached_words(alloc, date.as_str(), left)?;
+    Ok(account_line(alloc, account, words.as_str())?)
+}
+
+/// That each run of a day reached that limit, if it is told.
+pub fn limited_line(
+    alloc: Global,
+    account: &[u8],
+    left: u64,
+    since: Option<u64>,
+) -> Result<Vec<u8>, AllocError>
+    ensures { IfOk result (λ line. IsLimited account.now left since line.items) }
+{
+    match since {
+        None => Ok(Vec::new(alloc)),
+        Some(since) => Ok(reached_line(alloc, account, left, since)?),
+    }
+}
+
+/// How many messages have a repeated id, if that is told.
+pub fn repeated_line(
+    alloc: Global,
+    account: &[u8],
+    count: Option<u64>,
+) -> Result<Vec<u8>, AllocError>
+    ensures { IfOk result (λ line. line.items ≡ repeated_line account.now count) }
+{
+    match count {
+        None => Ok(Vec::new(alloc)),
+        Some(count) => {
+            let words = format!(in alloc; "left out: {count} with a repeated unique-id")?;
+            Ok(account_line(alloc, account, words.as_str())?)
+        }
+    }
+}
+
+/// Since when runs had failed that work again.
+fn mended_words(alloc: Global, date: &str) -> Result<String, AllocError>
+    ensures { IfOk result (λ words. string_bytes words ≡ mended_words date.now) }
+{
     format!(in alloc; "works again: runs had failed since {date}")
+}
+
+/// The line on that.
+fn mended_line(alloc: Global, account: &[u8], since: u64) -> Result<Vec<u8>, AllocError>
+    ensures { IfOk result (λ line. IsMended account.now since line.items) }
+{
+    let date = date_of(alloc, since)?;
+    let words = mended_words(alloc, date.as_str())?;
+    Ok(account_line(alloc, account, words.as_str())?)
+}
+
+/// That runs work again, if it is told.
+pub fn end_line(alloc: Global, account: &[u8], since: Option<u64>) -> Result<Vec<u8>, AllocError>
+    ensures { IfOk result (λ line. IsEnd account.now since line.items) }
+{
+    match since {
+        None => Ok(Vec::new(alloc)),
+        Some(since) => Ok(mended_line(alloc, account, since)?),
+    }
 }

@@ -1,8 +1,8 @@
 //! The rehearsal: a session with a recorded conversation as its server, and with a Maildir and a
 //! record in memory.
-ghost use Rattle.std.specs.Prelude.{◌≡◌, ◌≤◌, IfOk};
+ghost use Rattle.std.specs.{Prelude.{◌≡◌, ◌≤◌, ◌++◌, ℕ, List, IfOk, OnOk}, String.string_bytes};
 ghost use Rattle.rc_file.specs.Settings.{IsValid, content_of};
-ghost use Rattle.getmail_program.specs.Rehearsal.{HoldsOne, Rehearses, defaults};
+ghost use Rattle.getmail_program.specs.Rehearsal.{HoldsOne, IsStoredLine, Rehearses, defaults, rehearsal_end};
 
 use crate::ending::unwritten_line;
 use crate::transcript::Transcript;
@@ -52,7 +52,10 @@ fn put_stored(
     account: &AccountId,
     name: &str,
     length: usize,
-) -> Result<(), AllocError> {
+) -> Result<(), AllocError>
+    ensures { OnOk result ((line : List ℕ) × IsStoredLine account.now name.now length line
+        × (lines.new.items ≡ lines.old.items ++ line)) }
+{
     if let Some(uid) = uid_of(alloc, account, name)? {
         lines.extend_from_slice(b"stored ")?;
         lines.extend_from_slice(uid.as_slice())?;
@@ -62,7 +65,9 @@ fn put_stored(
 }
 
 /// The last line: `ended`, or `cut` with the fault's number.
-fn outcome_line(alloc: Global, outcome: &Outcome) -> Result<String, AllocError> {
+fn outcome_line(alloc: Global, outcome: &Outcome) -> Result<String, AllocError>
+    ensures { IfOk result (λ line. string_bytes line ≡ rehearsal_end outcome.now) }
+{
     match fault_number(outcome) {
         0 => String::from_str(alloc, "ended\n"),
         number => format!(in alloc; "cut {number}\n"),

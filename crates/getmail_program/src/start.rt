@@ -1,22 +1,27 @@
 //! A run from its command line to its exit status.
-ghost use Rattle.std.specs.{Prelude.{◌≡◌, ◌≤◌, map, IfErr, IfOk}, String.string_bytes};
+ghost use Rattle.std.specs.{
+  Prelude.{◌≡◌, ◌≤◌, ◌∷◌, [], None, codes, false, map, option_map, true, IfErr, IfOk},
+  String.string_bytes,
+};
 ghost use Rattle.getmail_setup.specs.Failures.{status_of};
 ghost use Rattle.system_calls.specs.declared.system.System.{System};
-ghost use Rattle.getmail_program.specs.{Fetching.Runs, Rehearsal.Rehearses, Starting.{LeadsTo, Starts}};
+ghost use Rattle.getmail_program.specs.{Fetching.Runs, News.name_or, Rehearsal.Rehearses, Starting.{LeadsTo, Starts}};
 
 use crate::fetch::{Machine, is_unattended, run};
-use crate::news::tell_news;
+use crate::news::{RunSaid, tell_news};
+use crate::news_file::HostPast;
 use crate::rehearsal::rehearse;
 use crate::transcript::Transcript;
 use fetch_rules::RcFault;
 use file_reading::ReadFile;
 use folder_store::{HostFile, HostFolder, HostMaildir};
 use getmail_setup::{
-    Errors, Failure, Journal, Kept, Link, Output, Reasons, Words, explain, fail, read_words, tell,
+    Errors, Failure, Journal, Kept, Link, Output, Reasons, Words, explain, fail, folder, home,
+    rc_file, read_words, tell,
 };
 use mail_store::{FlatFile, MaildirDisk, MemoryFile, MemoryMaildir};
 use pop3_wire::{StreamWire, Wire};
-use std::alloc::Global;
+use std::alloc::{AllocError, Global};
 use std::env::{self, Env};
 use std::fs::File;
 use std::io::{ErrorKind, IsTerminal, Read, Stderr, Write};
@@ -27,7 +32,11 @@ use system_calls::System;
 use trace::TracedWire;
 
 /// Where an unattended run says what it says: in a journal.
-fn errors_kept<'a>(journal: &'a Journal, reasons: &'a Reasons) -> Errors<'a, Kept<'a>> {
+fn errors_kept<'a>(journal: &'a Journal, reasons: &'a Reasons) -> Errors<'a, Kept<'a>>
+    ensures why { (result.says_why ≡ true) × (result.explains ≡ true) }
+    ensures progress { result.shows_progress ≡ false }
+    ensures none { result.err.refusal ≡ None }
+{
     let err = Output::new(Kept(journal));
     let journal = Some(journal);
     Errors {
@@ -37,6 +46,45 @@ fn errors_kept<'a>(journal: &'a Journal, reasons: &'a Reasons) -> Errors<'a, Kep
         explains: true,
         reasons,
         journal,
+    }
+}
+
+/// The rc file's path, if it is known.
+fn rc_path_of<R: Env + AllocGlobal>(rt: &R, words: &Words) -> Option<String> {
+    let alloc = rt.alloc();
+    let home = home(rt).ok()?;
+    let folder = folder(alloc, home.as_deref(), words.dir.as_deref()).ok()?;
+    rc_file(
+        alloc,
+        home.as_deref(),
+        folder.as_str(),
+        words.rcfile.as_deref(),
+    )
+    .ok()
+}
+
+/// The name of a run's account or, if it isn't known, the rc file's path.
+fn name_or(account: Vec<u8>, path: Option<String>) -> Vec<u8>
+    ensures { result.items ≡ name_or account.items (option_map string_bytes path) }
+{
+    if !account.is_empty() {
+        return account;
+    }
+    match path {
+        Some(path) => path.into_bytes(),
+        None => account,
+    }
+}
+
+/// What a run said. It is taken out of its journal.
+fn said_in<R: Env + AllocGlobal>(rt: &R, words: &Words, journal: &Journal) -> RunSaid {
+    RunSaid {
+        account: name_or(journal.take_account(), rc_path_of(rt, words)),
+        parts: journal.take(),
+        left: journal.take_left_out(),
+        has_ended: journal.has_ended(),
+        has_met: journal.has_met(),
+        lacks_memory: journal.lacks_memory(),
     }
 }
 
@@ -61,7 +109,9 @@ where
     let journal = Journal::new(rt.alloc());
     let errors = errors_kept(&journal, reasons);
     let status = run(machine, words, out, errors);
-    tell_news(rt, machine.process, words, &journal, err);
+    let past = HostPast::new(rt, machine.process, words);
+    let said = said_in(rt, words, &journal);
+    tell_news(rt.alloc(), &past, &said, &mut Output::new(err));
     status
 }
 
@@ -88,6 +138,17 @@ where
     status
 }
 
+/// The words in place of those that can't be read: the program's name, and one that is no option.
+fn unread_words(alloc: Global) -> Result<Vec<String>, AllocError>
+    ensures { IfOk result (λ words. map string_bytes words.items
+        ≡ codes "getmail" ∷ (239 ∷ 191 ∷ 189 ∷ []) ∷ []) }
+{
+    let mut words = Vec::new(alloc);
+    words.push(String::from_str(alloc, "getmail")?)?;
+    words.push(String::from_str(alloc, "\u{FFFD}")?)?;
+    Ok(words)
+}
+
 /// The words of the command line, the program's name first. If they can't be read, for example because
 /// one isn't UTF-8, a word that is no option takes their place, so that the usage is shown.
 pub fn arguments<'a, R: Env + AllocGlobal>(rt: &R) -> Result<Vec<String>, Failure<'a>> {
@@ -97,10 +158,7 @@ pub fn arguments<'a, R: Env + AllocGlobal>(rt: &R) -> Result<Vec<String>, Failur
             if error.kind() == ErrorKind::OutOfMemory {
                 return Err(Failure::NoMemory);
             }
-            let mut words = Vec::new(rt.alloc());
-            words.push(String::from_str(rt.alloc(), "getmail")?)?;
-            words.push(String::from_str(rt.alloc(), "\u{FFFD}")?)?;
-            Ok(words)
+            Ok(unread_words(rt.alloc())?)
         }
     }
 }

@@ -1,6 +1,6 @@
 //! The lines of a report that are written while its session runs.
 ghost use Rattle.std.{
-  specs.{Prelude.{◌≡◌, ℕ, false, true, List, [], IfOk}, String.string_bytes},
+  specs.{Prelude.{◌≡◌, ◌&&◌, ◌==◌, ℕ, false, not, true, List, [], IfOk}, String.string_bytes},
   proofs.Common.{refl, ◌∙◌},
 };
 ghost use Rattle.fetch_session.specs.Report.{is_deletion};
@@ -121,7 +121,9 @@ impl<'a, O: Write> Teller<'a, O> {
 impl<'a, O: Write> Listener for Teller<'a, O> {
     ghost hears = { λ a plans b. HasSameLinks a b × WroteMore O.contents a b × HasLast plans a b };
 
-    fn asks_why(&self) -> bool {
+    fn asks_why(&self) -> bool
+        ensures { result ≡ (self.now.explains && not (self.now.verbose == 1)) }
+    {
         self.explains && self.verbose != 1
     }
 

@@ -1,6 +1,9 @@
 //! The commands that a rehearsal shows.
-ghost use Rattle.std.specs.Prelude.{◌≡◌};
-ghost use Rattle.getmail_program.specs.Rehearsal.{shown_of};
+ghost use Rattle.std.specs.{
+  Prelude.{◌≡◌, ◌≢◌, ◌++◌, ℕ, List, IfOk, MatchOption, OnOk, length},
+  Io.KnownBytes.Appends,
+};
+ghost use Rattle.getmail_program.specs.Rehearsal.{IsCommandIn, shown_line, shown_of};
 
 use std::io;
 use std::io::Write;
@@ -22,11 +25,42 @@ fn shown(command: &[u8]) -> &[u8]
     command
 }
 
+/// What is before an end, if octets end with it.
+fn before<'a>(octets: &'a [u8], end: &[u8]) -> Option<&'a [u8]>
+    ensures { MatchOption result ((front : List ℕ) → octets.now ≢ front ++ end.now)
+        (λ front. octets.now ≡ front.now ++ end.now) }
+{
+    octets.strip_suffix(end)
+}
+
+/// The command that a line has; all octets if they don't end as a line does.
+fn command_in(line: &[u8]) -> &[u8]
+    ensures { IsCommandIn line.now result.now }
+{
+    match before(line, b"\r\n") {
+        Some(command) => command,
+        None => line,
+    }
+}
+
 /// Writes a command's line as it is shown.
-fn show<W: Write>(writer: &mut W, command: &[u8]) -> io::Result<()> {
+fn show<W: Write>(writer: &mut W, command: &[u8]) -> io::Result<()>
+    ensures { OnOk result (Appends (W.contents writer.old) (W.contents writer.new) (shown_line command.now)) }
+{
     writer.write_all(b"C: ")?;
     writer.write_all(shown(command))?;
-    writer.write_all(b"\n")
+    writer.write_all(b"\n")?;
+    Ok(())
+}
+
+/// Shows the command that a line has, and returns the length of the line.
+fn show_line<W: Write>(writer: &mut W, line: &[u8]) -> io::Result<usize>
+    ensures count { IfOk result (λ count. count ≡ length line.now) }
+    ensures shows { OnOk result ((command : List ℕ) × IsCommandIn line.now command
+        × Appends (W.contents writer.old) (W.contents writer.new) (shown_line command)) }
+{
+    show(writer, command_in(line))?;
+    Ok(line.len())
 }
 
 impl<W: Write> Transcript<W> {
@@ -48,12 +82,7 @@ impl<W: Write> Transcript<W> {
 
 impl<W: Write> Write for Transcript<W> {
     fn write(&mut self, buf: &[u8]) -> io::Result<usize> {
-        let command = match buf.strip_suffix(b"\r\n".as_slice()) {
-            Some(command) => command,
-            None => buf,
-        };
-        show(&mut self.writer, command)?;
-        Ok(buf.len())
+        show_line(&mut self.writer, buf)
     }
 
     fn flush(&mut self) -> io::Result<()> {

@@ -22,7 +22,7 @@ returns-in-Some-clause-err g c = (
     inr (
       c.in-Ok-set_up.setup,
       c.in-Ok-set_up.ensures.ok,
-      inr c.in-Some.ensures.0,
+      inr c.in-Some.ensures.status.0,
     ),
   ),
 )
@@ -40,15 +40,15 @@ returns-in-Err-prepare-clause-err g c = (
   ),
 )
 
-pub returns-then-is_patient-clause-err : goal.returns-then-is_patient-clause-err
-returns-then-is_patient-clause-err g c = (
+pub returns-then-leaves_to_other-clause-err : goal.returns-then-leaves_to_other-clause-err
+returns-then-leaves_to_other-clause-err g c = (
   c.new-files.result,
   (
     option_map {T = Bor (List ℕ)} {U = List ℕ} (λ text. text.now) c.as_deref.result,
     inr (
       c.in-Ok-set_up.setup,
       c.in-Ok-set_up.ensures.ok,
-      inl (c.is_patient.ensures c.if-is_patient.true, refl),
+      inl (c.leaves_to_other.ensures c.if-leaves_to_other.true, refl),
     ),
   ),
 )
