@@ -304,11 +304,6 @@ pub record TellsNews {E : Type 0} (contents : E → Option (List ℕ)) (gave : R
 
 -- ---- another run that has the lock
 
--- a mark, if it is known
-abbrev pub mark_of : Option ℕ → ℕ
-mark_of None = 0
-mark_of (Some mark) = mark
-
 -- since when the lock is met, as earlier runs kept it
 abbrev pub met_in : Result Told AllocError → ℕ
 met_in (Ok told) = told.marks.met

@@ -278,7 +278,7 @@ fn large_lines(
     let mut text = Vec::new(alloc);
     let mut marks = named;
     let mut rest = left.large.as_slice();
-    while let [message, behind @ ..] = rest {
+    while let Some((message, behind)) = rest.split_first() {
         let (is_named, others) = cut_mark(marks);
         let line = named_line(alloc, account, left.limit, is_named, message)?;
         text.extend_from_slice(&line)?;
@@ -398,7 +398,7 @@ fn tell_all<E: Write>(said: &RunSaid, err: &mut Output<E>)
     ensures { Puts E.contents err.old (all_text said.now.parts.items ++ lack_text true) err.new }
 {
     let mut rest = said.parts.as_slice();
-    while let [part, behind @ ..] = rest {
+    while let Some((part, behind)) = rest.split_first() {
         err.put(&part.text);
         rest = behind;
     }

@@ -1,11 +1,11 @@
 //! What unattended runs told before: the file that keeps it, and the clock by which it is told again.
 ghost use Rattle.std.specs.{
-  Prelude.{◌≡◌, ◌≢◌, ℕ, Bool, true, List, Option, Result, Ok, IfErr, IfOk, IsErr, MatchOption},
+  Prelude.{◌≡◌, ◌≢◌, ℕ, Bool, true, List, Option, Result, Ok, IfErr, IfOk, IsErr, MatchOption, unwrap_or},
   IoError.error_kind,
   declared.{alloc.AllocError.AllocError, time.SystemTime.SystemTime},
 };
 ghost use Rattle.run_memory.specs.{Memory.{Told, nothing, told_in}, Times.is_void};
-ghost use Rattle.getmail_program.specs.News.{HasPatience, mark_of, met_in};
+ghost use Rattle.getmail_program.specs.News.{HasPatience, met_in};
 
 use file_reading::ReadFile;
 use folder_store::{HostFile, ProcessMark};
@@ -76,7 +76,7 @@ fn is_void(mark: u64, now: u64) -> bool
 /// Nothing is said of another run for the first hour since it took the lock at a mark. If that mark isn't known or is
 /// still to come, the hour begins at the first run that met it.
 pub fn patience<P: Past>(past: &P, held: Option<u64>) -> Waiting
-    ensures { HasPatience (P.gave past.now) (P.showed past.now) (mark_of held) result }
+    ensures { HasPatience (P.gave past.now) (P.showed past.now) (unwrap_or held 0) result }
 {
     let now = second_of(past.time());
     let held = held.unwrap_or(0);

@@ -15,5 +15,5 @@ returns-in-Some g c = record {
   middle = _;
   puts = puts_both g.E.Write.contents _ _ _ _ _ (rw c.deref.ensures.value at c.put.ensures)
       (rw (c.as_bytes.ensures.value, c.lack_text.ensures) at c.put-2.ensures);
-  keeps = rw c.in-Some.is (rw c.deref-2.ensures.value at c.keep_octets.ensures);
+  keeps = rw c.in-Some.is (rw c.deref-in-Some.ensures.value at c.keep_octets.ensures);
 }
