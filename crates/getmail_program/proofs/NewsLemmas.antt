@@ -1,7 +1,7 @@
 -- What a text is known by, and what is written part by part.
 use Rattle.std.{
   proofs.{
-    Common.{◌≡◌, ◌∙◌, ◌∷◌, ◌++◌, ◌<◌, ◌≤◌, ◌==◌, ℕ, List, [], Option, true, false, ap, append-nil, append_assoc, arith},
+    Common.{◌≡◌, ◌∙◌, ◌∷◌, ◌++◌, ◌<◌, ◌==◌, ℕ, List, [], Option, true, false, ap, append-nil, append_assoc, arith},
     Common.{length, refl, subst, sym},
     Common.{Bool, decimal, drop, if◌then◌else◌, inl, inr},
     lemmas.{Bool.Decides.nat_tests, List.Concat.flat_map-cons, Str.{IsUtf8-from_is_utf8, is_utf8-from_IsUtf8}},

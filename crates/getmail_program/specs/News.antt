@@ -1,6 +1,6 @@
 -- What an unattended run writes of what it says.
 use Rattle.std.specs.{
-  Prelude.{◌≡◌, ◌≢◌, ◌⊎◌, ◌≤◌, ◌&&◌, ◌||◌, ◌==◌, ℕ, Bool, true, false, not, List, [], ◌∷◌, ◌++◌, Option, None, Some},
+  Prelude.{◌≡◌, ◌⊎◌, ◌≤◌, ◌&&◌, ◌||◌, ◌==◌, ℕ, Bool, true, false, not, List, [], ◌∷◌, ◌++◌, Option, None, Some},
   Prelude.{Result, Ok, Err, bytes_eq, codes, drop, filter},
   Prelude.{find, flat_map, is_some, length, map, max, option_map, if◌then◌else◌},
   Fmt.decimal,
