@@ -1,7 +1,7 @@
 -- A front of a text.
 use Rattle.std.{
   proofs.{
-    Common.{◌≡◌, ◌∙◌, ◌-◌, ◌≤◌, ¬, ℕ, List, ap, arith, inl, inr, refl, take},
+    Common.{◌≡◌, ◌∙◌, ◌-◌, ◌≤◌, ℕ, List, ap, arith, inl, inr, refl, take},
     lemmas.Str.IsCharBoundary-start,
   },
   specs.{List.slice_range, Str.{IsCharBoundary, IsUtf8}},
@@ -13,6 +13,6 @@ front_some text n front is =
     let same : n - 0 ≡ n = omega arith in
     inl (is ∙ ap (λ (count : ℕ). take count text) same)
 
-pub front_none : (text : List ℕ) (n : ℕ) → IsUtf8 text → (0 ≤ n → IsCharBoundary text 0 → ¬ (IsCharBoundary text n))
+pub front_none : (text : List ℕ) (n : ℕ) → IsUtf8 text → (0 ≤ n → IsCharBoundary text 0 → IsCharBoundary text n → ⊥)
     → IsTextFront text n text
 front_none text n is none = inr (λ here. none (omega arith) (IsCharBoundary-start text is) here, refl)

@@ -190,8 +190,8 @@ fn place_of(
     path: &str,
     terms: &RunTerms<'_>,
 ) -> Result<String, AllocError>
-    ensures { IfOk result (λ place. IsPlace fault.now is_denied path.now terms.now.destination.now
-        terms.now.record.now (string_bytes place)) }
+    ensures { IfOk result (λ place. IsPlace fault.now is_denied path.now terms.entry.now.destination.now
+        terms.entry.now.record.now (string_bytes place)) }
 {
     match fault {
         Fault::StoreRefused(why) => {
@@ -242,8 +242,8 @@ fn with_place(
 ) -> Refusal
     ensures error { result.error ≡ refusal.error }
     ensures place { (string_bytes result.path ≡ string_bytes refusal.path)
-        ⊎ IsPlace fault.now is_denied (string_bytes refusal.path) terms.now.destination.now terms.now.record.now
-        (string_bytes result.path) }
+        ⊎ IsPlace fault.now is_denied (string_bytes refusal.path) terms.entry.now.destination.now
+        terms.entry.now.record.now (string_bytes result.path) }
 {
     match place_of(alloc, fault, is_denied, refusal.path.as_str(), terms) {
         Ok(path) => Refusal {
@@ -303,7 +303,8 @@ pub fn findings_on<E>(
     terms: &RunTerms<'_>,
     errors: &Errors<'_, E>,
 ) -> Findings
-    ensures { FindsOn errors.now.says_why outcome.now terms.now.destination.now terms.now.record.now result }
+    ensures { FindsOn errors.now.says_why outcome.now terms.entry.now.destination.now terms.entry.now.record.now
+        result }
 {
     let (Outcome::Cut(fault), true) = (outcome, errors.says_why) else {
         return nothing(alloc);
