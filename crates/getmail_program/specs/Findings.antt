@@ -66,8 +66,8 @@ IsPlace SeenRefused is_denied path destination seen place = IsRecordPlace is_den
 IsPlace fault is_denied path destination seen place = place ≡ path
 
 -- a copy of a text; empty if there is no memory for it
-abbrev pub IsCopy : List ℕ → List ℕ → Type 0
-IsCopy text copy = (copy ≡ text) ⊎ (copy ≡ [])
+abbrev pub IsCopyOrNone : List ℕ → List ℕ → Type 0
+IsCopyOrNone text copy = (copy ≡ text) ⊎ (copy ≡ [])
 
 -- nothing was refused, and no path is known
 abbrev pub HasNothing : Findings → Type 0
@@ -77,5 +77,5 @@ HasNothing found = (found.refused.items ≡ []) × (found.is_denied ≡ false)
 -- something is noted of a cut alone, if reasons are asked for: also the paths of the run
 abbrev pub FindsOn : Bool → Outcome → List ℕ → List ℕ → Findings → Type 0
 FindsOn true (Cut fault) destination seen found =
-    IsCopy destination (string_bytes found.destination) × IsCopy seen (string_bytes found.record)
+    IsCopyOrNone destination (string_bytes found.destination) × IsCopyOrNone seen (string_bytes found.record)
 FindsOn asked outcome destination seen found = HasNothing found

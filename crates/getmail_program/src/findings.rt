@@ -8,7 +8,7 @@ ghost use Rattle.std.specs.{
 ghost use Rattle.getmail_program.specs.Findings.{
   FindsOn,
   HasNothing,
-  IsCopy,
+  IsCopyOrNone,
   IsDeniedIn,
   IsFolderIn,
   IsTextFront,
@@ -224,7 +224,7 @@ fn refusal_for(reasons: &Reasons, fault: &Fault) -> Option<Refusal> {
 
 /// A copy of a text; empty if there is no memory for it.
 fn copied(alloc: Global, text: &str) -> String
-    ensures { IsCopy text.now (string_bytes result) }
+    ensures { IsCopyOrNone text.now (string_bytes result) }
 {
     match String::from_str(alloc, text) {
         Ok(copy) => copy,
@@ -257,7 +257,7 @@ fn with_place(
 /// What was refused, in words. An unattended run takes faults of one path for the same.
 fn refused<E>(alloc: Global, refusal: &Refusal, errors: &Errors<'_, E>) -> Vec<u8>
     ensures { error_kind refusal.now.error ≡ ErrorKind.WouldBlock
-        → IsCopy (string_bytes refusal.now.path ++ codes ": silent for 180 seconds") result.items }
+        → IsCopyOrNone (string_bytes refusal.now.path ++ codes ": silent for 180 seconds") result.items }
 {
     if let Some(journal) = errors.journal {
         journal.note_place(refusal.path.as_str());
