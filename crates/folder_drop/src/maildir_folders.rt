@@ -168,7 +168,8 @@ impl<'a, R: Files + Clock + AllocGlobal + Clone + Drop> MailFiles for MaildirFol
     }
 
     fn way(&self, folder: Folder, name: &str) -> io::Result<FileWay> {
-        self.folder(folder)?.file(name)
+        let found = self.folder(folder)?.file(name)?;
+        Ok(FileWay { folder, ..found })
     }
 
     fn look_up(&self, file: &FileWay) -> io::Result<Found> {
