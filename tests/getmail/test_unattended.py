@@ -327,13 +327,14 @@ class Unattended(unittest.TestCase):
         self.assertEqual(len(self.session()[1]), 2)
 
     def test_no_memory_for_what_was_told(self):
-        """All is written, and what was kept stays."""
+        """All is written, and that there was none; what was kept stays."""
         self.refuse("UIDL")
-        self.session()
+        _, lines = self.session()
         path, = self.told()
         before = path.read_bytes()
         with preload.library("refuse_call") as library:
-            self.assertEqual(len(self.session(LD_PRELOAD=str(library), REFUSED_CALL="told")[1]), 2)
+            self.assertEqual(self.session(LD_PRELOAD=str(library), REFUSED_CALL="told")[1],
+                             [*lines, "getmail: out of memory"])
         self.assertEqual(path.read_bytes(), before)
 
     def test_a_refused_growth_forgets_nothing(self):
