@@ -39,16 +39,18 @@ fn what_cant_be_opened_is_no_file(rt: HostRuntime) -> Result<(), Fail> {
     folders.obstruct(odd.as_str())?;
     folders.obstruct(file.as_str())?;
     let mut disk = FolderMaildir::over(alloc, folders);
-    let mut asked = Asked {
+    let names = disk.names_among(Asked {
         account: &account,
         listing: &listing,
         flags: &[false, true, true],
-    };
-    let names = disk.names_among(asked)?;
+    })?;
     assert!(rt; names.is_empty() && disk.odd().iter().all(|name| name.as_str() == odd.as_str()));
     assert_eq!(rt; disk.odd().len(), 2);
-    asked.flags = &[true, false, true];
-    let names = disk.names_among(asked)?;
+    let names = disk.names_among(Asked {
+        account: &account,
+        listing: &listing,
+        flags: &[true, false, true],
+    })?;
     assert_eq!(rt; (names.len(), disk.odd().len()), (1, 1));
     Ok(())
 }
