@@ -66,6 +66,8 @@ impl<H: BuildHasher> RowMap<H> {
             if self.has(uid) {
                 continue;
             }
+            // The rest may be new too; room that is made at once leaves no smaller tables behind.
+            self.reserve((listing.len() - i) as usize)?;
             let state = State {
                 first_seen: now,
                 delivered: false,

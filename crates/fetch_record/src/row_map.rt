@@ -18,6 +18,10 @@ use std::cell::Cell;
 use std::hash::BuildHasher;
 use std::marker::Model;
 
+/// What a row's line has besides the id, if its second is of this century: two spaces, ten digits, the
+/// state and the end.
+const LINE_ROOM: usize = 14;
+
 /// What is known of one message.
 #[derive(Clone, Copy)]
 pub struct State {
@@ -191,12 +195,24 @@ impl<H: BuildHasher> RowMap<H> {
         Ok(self.states.insert(id, state)?)
     }
 
+    /// About how many octets the rows' lines have, by the length of the first row's id.
+    fn likely_octets(&self) -> usize {
+        match self.states.get_index(0) {
+            Some((uid, _)) => uid
+                .len()
+                .saturating_add(LINE_ROOM)
+                .saturating_mul(self.len()),
+            None => 0,
+        }
+    }
+
     /// The rows as a file of version 2.
     pub(crate) fn bytes(&self) -> Result<Vec<u8>, AllocError>
         ensures file { IfOk result (λ bytes. bytes.items ≡ header Two ++ flat_map record_row_line self.now) }
         ensures is_record { IsRecord self.now }
     {
         let mut bytes = Vec::from_slice(self.alloc, HEADER)?;
+        bytes.reserve(self.likely_octets())?;
         for place in 0..self.len() {
             let (uid, state) = self.at(place);
             write_line(self.alloc, &mut bytes, uid, state)?;
