@@ -1,7 +1,7 @@
 -- The record's rows: their ids and their delivery, as the entries of a map, and as the reader takes them.
 use Rattle.std.{
-  proofs.Common.{All, Bool, Global, HoldsAt, IfNone, IfSome, List, None, Option, Some, String, [], ap, ap₂, arith, bytes_eq, cond, false},
-  proofs.Common.{filter, get_or, inl, inr, is_some, length, length-append, map, not, position, refl, slice_get, string_bytes, subst, suc},
+  proofs.Common.{All, Bool, HoldsAt, IfNone, IfSome, List, None, Option, Some, [], ap, ap₂, arith, bytes_eq, cond, false},
+  proofs.Common.{filter, get_or, inl, inr, is_some, length, length-append, map, not, position, refl, slice_get, subst, suc},
   proofs.Common.{sym, take, true, true≢false, zero, ℕ, ◌&&◌, ◌++◌, ◌<◌, ◌==◌, ◌^◌, ◌||◌, ◌∙◌, ◌∷◌, ◌≡◌, ◌≢◌, ◌⊎◌},
   proofs.Math.{Bool.{and-not_self, or-false, or-true}, Seq.get_or-append_seam},
   proofs.lemmas.{Cmp.nat_list_eq_equiv, Bool.{and_parts, cases_Bool, cond_both, eq-eqb, eqb-true, false_from_ne_true, or_parts, or_right}},
@@ -19,12 +19,13 @@ use Rattle.mail_terms.{
   proofs.{IdLemmas.{same_from_test, test_from_other, test_from_same}, ListLemmas.any_map},
 }
 use Rattle.fetch_record.specs.{
+  Ids.id_octets,
   Lines.{RefusesRow, TakesRow, after_row, is_in_group, version_of},
   Record.{Intent, IsRecord, IsRow, Row, has_row, is_delivered, is_of, marked, with_delivered, with_held},
   RecordFile.{changed, marking, written},
   RecordGrowth.{IsGroup, taken_all},
   RecordMeaning.delivers,
-  declared.{seen.SeenFault.TheVariants.RepeatedId, reading.Part.{Part, TheVariants.{Base, Between, Within}}, row_map.State.State},
+  declared.{seen.SeenFault.TheVariants.RepeatedId, reading.Part.{Part, TheVariants.{Base, Between, Within}}, row_map.State.State, id.Id.Id},
   Rows.{row_from, row_of_state, rows_of_states, state_in, state_of},
 }
 use mathlib.Core.List.{map-map}
@@ -248,19 +249,19 @@ state_found rows _ _ read is found at =
 
 -- ---- the rows as the entries of a map
 
-pub lookup_state : (uid : List ℕ) (es : List (String Global × State))
-    → lookup (λ key. bytes_eq uid (string_bytes key)) es ≡ state_in (rows_of_states es) uid
+pub lookup_state : (uid : List ℕ) (es : List (Id × State))
+    → lookup (λ key. bytes_eq uid (id_octets key)) es ≡ state_in (rows_of_states es) uid
 lookup_state _ [] = refl
-lookup_state uid (e ∷ es) = elim (cases_Bool (bytes_eq uid (string_bytes e.0))) [
+lookup_state uid (e ∷ es) = elim (cases_Bool (bytes_eq uid (id_octets e.0))) [
   | inl here ↦ rw here refl
   | inr other ↦ rw other (lookup_state _ es)
 ]
 
-pub set_here : (uid : List ℕ) (es : List (String Global × State)) (state new : State) → IsRecord (rows_of_states es)
-    → lookup (λ key. bytes_eq uid (string_bytes key)) es ≡ Some state → new ≡ record state { delivered = true }
-    → rows_of_states (set_value (λ key. bytes_eq uid (string_bytes key)) es new) ≡ marked (rows_of_states es) uid
+pub set_here : (uid : List ℕ) (es : List (Id × State)) (state new : State) → IsRecord (rows_of_states es)
+    → lookup (λ key. bytes_eq uid (id_octets key)) es ≡ Some state → new ≡ record state { delivered = true }
+    → rows_of_states (set_value (λ key. bytes_eq uid (id_octets key)) es new) ≡ marked (rows_of_states es) uid
 set_here _ [] _ _ _ _ _ = refl
-set_here uid (e ∷ es) state new is found new_is = elim (cases_Bool (bytes_eq uid (string_bytes e.0))) [
+set_here uid (e ∷ es) state new is found new_is = elim (cases_Bool (bytes_eq uid (id_octets e.0))) [
   | inl test ↦ rw (
     test,
     unmarked uid (rows_of_states es) (apart uid (row_of_state e) (rows_of_states es) is test),
@@ -276,22 +277,22 @@ set_here uid (e ∷ es) state new is found new_is = elim (cases_Bool (bytes_eq u
 ]
 
 -- the row at a place is marked
-pub set_at : (es : List (String Global × State)) (i : ℕ) (d : Row) (state new : State) → IsRecord (rows_of_states es)
+pub set_at : (es : List (Id × State)) (i : ℕ) (d : Row) (state new : State) → IsRecord (rows_of_states es)
     → i < length (rows_of_states es) → slice_get (values_of es) i ≡ Some state → new ≡ record state { delivered = true }
     → rows_of_states (set_value_at es i new) ≡ marked (rows_of_states es) (get_or (rows_of_states es) i d).uid
 set_at [] i d _ _ _ inside _ _ = absurd (omega (arith, inside))
 set_at (e ∷ es) zero d state _ is _ found new_is =
-    let test = test_from_same _ (string_bytes e.0) refl in
+    let test = test_from_same _ (id_octets e.0) refl in
     rw (
       test,
-      unmarked (string_bytes e.0) (rows_of_states es) (apart (string_bytes e.0) (row_of_state e) (rows_of_states es) is test),
+      unmarked (id_octets e.0) (rows_of_states es) (apart (id_octets e.0) (row_of_state e) (rows_of_states es) is test),
       or-true,
       new_is,
       ←
           same_Some e.1 state found,
     ) refl
 set_at (e ∷ es) (suc i) d state new is inside found new_is =
-    let other = test_from_other (get_or (rows_of_states es) i d).uid (string_bytes e.0)
+    let other = test_from_other (get_or (rows_of_states es) i d).uid (id_octets e.0)
     (λ same. rows_differ (row_of_state e ∷ rows_of_states es) is 0 (suc i) d (omega arith) (omega (arith, inside)) (sym same)) in
     rw (
       other,
@@ -299,31 +300,31 @@ set_at (e ∷ es) (suc i) d state new is inside found new_is =
       set_at es i d state new (rest_of (row_of_state e) (rows_of_states es) is) (omega (arith, inside)) found new_is,
     ) refl
 
-pub place_found : (uid : List ℕ) (es : List (String Global × State)) (place : Option ℕ)
-    → place ≡ position (λ key. bytes_eq uid (string_bytes key)) (keys_of es)
+pub place_found : (uid : List ℕ) (es : List (Id × State)) (place : Option ℕ)
+    → place ≡ position (λ key. bytes_eq uid (id_octets key)) (keys_of es)
     → IfSome place (λ i. (i < length (rows_of_states es)) × HoldsAt (λ (row : Row). row.uid ≡ uid) (rows_of_states es) i)
 place_found _ _ None _ = tt
 place_found _ [] (Some i) is = absurd (none-some i (sym is))
 place_found uid (e ∷ es) (Some i) is =
-    let at = position-Some (λ key. bytes_eq uid (string_bytes key)) (keys_of (e ∷ es)) i e.0 (sym is) in
-    let inside : i < length (e ∷ es) = omega (arith, at.0, length-map (e ∷ es) (λ (entry : String Global × State). entry.0)) in (
+    let at = position-Some (λ key. bytes_eq uid (id_octets key)) (keys_of (e ∷ es)) i e.0 (sym is) in
+    let inside : i < length (e ∷ es) = omega (arith, at.0, length-map (e ∷ es) (λ (entry : Id × State). entry.0)) in (
       omega (arith, inside, length-map (e ∷ es) row_of_state),
       λ d. ap uid_of (get_or-map row_of_state (e ∷ es) i e d inside)
-          ∙ ap string_bytes (sym (get_or-map (λ (entry : String Global × State). entry.0) (e ∷ es) i e e.0 inside))
+          ∙ ap id_octets (sym (get_or-map (λ (entry : Id × State). entry.0) (e ∷ es) i e e.0 inside))
           ∙ sym (same_from_test uid _ at.1),
     )
 
-pub no_place : (uid : List ℕ) (es : List (String Global × State)) (place : Option ℕ)
-    → is_some place ≡ is_some (lookup (λ key. bytes_eq uid (string_bytes key)) es) → IfNone place (has_row (rows_of_states es) uid ≡ false)
+pub no_place : (uid : List ℕ) (es : List (Id × State)) (place : Option ℕ)
+    → is_some place ≡ is_some (lookup (λ key. bytes_eq uid (id_octets key)) es) → IfNone place (has_row (rows_of_states es) uid ≡ false)
 no_place _ _ (Some i) _ = tt
 no_place uid es None is = cc (lookup_state uid es, is_some_state_in uid (rows_of_states es))
 
 -- ---- a row that is added or replaced
 
-abbrev is_key : String Global → String Global → Bool
-is_key key other = bytes_eq (string_bytes key) (string_bytes other)
+abbrev is_key : Id → Id → Bool
+is_key key other = bytes_eq (id_octets key) (id_octets other)
 
-insert_is_set : (key : String Global) (old new : State) (es : List (String Global × State))
+insert_is_set : (key : Id) (old new : State) (es : List (Id × State))
     → lookup (is_key key) es ≡ Some old → insert_entry is_key es key new ≡ set_value (is_key key) es new
 insert_is_set key old _ [] found = absurd (none-some old found)
 insert_is_set key old new (e ∷ es) found = elim (cases_Bool (is_key key e.0)) [
@@ -331,13 +332,13 @@ insert_is_set key old new (e ∷ es) found = elim (cases_Bool (is_key key e.0)) 
   | inr other ↦ rw (other, insert_is_set key old new es (rw other at found)) refl
 ]
 
-each_set : (test : String Global → Bool) (new : State) (es : List (String Global × State)) → new.first_seen < 2 ^ 64
+each_set : (test : Id → Bool) (new : State) (es : List (Id × State)) → new.first_seen < 2 ^ 64
     → AllByRecursion IsRow (rows_of_states es) → AllByRecursion IsRow (rows_of_states (set_value test es new))
 each_set _ _ [] _ _ = tt
 each_set test _ (e ∷ es) fits each = cond_both (test e.0) _ _ (λ fs. AllByRecursion IsRow (rows_of_states fs))
     (λ _. (record { legal = each.0.legal; fits = fits }, each.1)) (λ _. (each.0, each_set _ _ es fits each.1))
 
-ids_kept : (test : String Global → Bool) (new : State) (es : List (String Global × State))
+ids_kept : (test : Id → Bool) (new : State) (es : List (Id × State))
     → map uid_of (rows_of_states (set_value test es new)) ≡ map uid_of (rows_of_states es)
 ids_kept _ _ [] = refl
 ids_kept test new (e ∷ es) =
@@ -345,13 +346,13 @@ ids_kept test new (e ∷ es) =
     (λ _. refl) (λ _. rw (ids_kept test new es) refl)
 
 -- the map is changed by one row
-pub record Puts (uid : List ℕ) (state : State) (es fs : List (String Global × State)) (rows : List Row) : Type 0 where
-  pub key : String Global
+pub record Puts (uid : List ℕ) (state : State) (es fs : List (Id × State)) (rows : List Row) : Type 0 where
+  pub key : Id
   pub rows_are : rows_of_states es ≡ rows
-  pub key_is : string_bytes key ≡ uid
+  pub key_is : id_octets key ≡ uid
   pub fs_is : fs ≡ insert_entry is_key es key state
 
-module _ {uid : List ℕ} {state : State} {es fs : List (String Global × State)} {rows : List Row} (puts : Puts uid state es fs rows) where
+module _ {uid : List ℕ} {state : State} {es fs : List (Id × State)} {rows : List Row} (puts : Puts uid state es fs rows) where
   pub known_at : lookup (is_key puts.key) es ≡ state_in rows uid
   known_at = lookup_state _ es ∙ rw (puts.rows_are, puts.key_is) refl
 

@@ -1,3 +1,4 @@
+pub mod Ids
 pub mod Intents
 pub mod Lines
 pub mod Outgrown

@@ -1,16 +1,16 @@
 -- The record's rows as the reader and the map have them.
-use Rattle.std.specs.{Prelude.{ℕ, List, Option, String, string_bytes, map, find, option_map}, Global.Global}
-use Rattle.fetch_record.specs.{Record.{Row, is_of}, declared.row_map.State.State}
+use Rattle.std.specs.Prelude.{ℕ, List, Option, map, find, option_map}
+use Rattle.fetch_record.specs.{Ids.id_octets, Record.{Row, is_of}, declared.{id.Id.Id, row_map.State.State}}
 
 -- the row of an id and what is known of its message
 abbrev pub row_from : List ℕ → State → Row
 row_from uid state = record { uid = uid; first_seen = state.first_seen; delivered = state.delivered }
 
-abbrev pub row_of_state : String Global × State → Row
-row_of_state entry = row_from (string_bytes entry.0) entry.1
+abbrev pub row_of_state : Id × State → Row
+row_of_state entry = row_from (id_octets entry.0) entry.1
 
 -- the entries of the map, as rows
-abbrev pub rows_of_states : List (String Global × State) → List Row
+abbrev pub rows_of_states : List (Id × State) → List Row
 rows_of_states entries = map row_of_state entries
 
 -- what is known of a row's message

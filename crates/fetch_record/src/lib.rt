@@ -4,6 +4,7 @@
 
 mod change;
 mod field;
+mod id;
 mod laws;
 mod line;
 mod reading;

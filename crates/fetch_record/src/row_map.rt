@@ -10,6 +10,7 @@ ghost use Rattle.fetch_record.specs.{
   Rows.{row_from, rows_of_states, state_in},
 };
 
+use crate::id::Id;
 use crate::line::{HEADER, write_line};
 use indexmap::IndexMap;
 use mail_terms::id_text;
@@ -30,12 +31,11 @@ pub struct State {
     pub delivered: bool,
 }
 
-/// The rows, each id once. An id is kept as a text, since a text is hashed as a whole and bytes one by
-/// one.
+/// The rows, each id once.
 #[derive(Drop)]
 pub(crate) struct RowMap<H: BuildHasher> {
     alloc: Global,
-    states: IndexMap<String, State, H>,
+    states: IndexMap<Id, State, H>,
     /// The place of the row that was found last: ids are mostly looked up in the rows' order.
     last: Cell<usize>,
 }
@@ -79,7 +79,7 @@ impl<H: BuildHasher> RowMap<H> {
         ensures { HoldsAt (λ row. row ≡ row_from result.0.now result.1) self.now place }
     {
         let (uid, state) = self.states.get_index(place).unwrap();
-        (uid.as_bytes(), *state)
+        (uid.as_str().as_bytes(), *state)
     }
 
     /// Whether an id has a row.
@@ -191,7 +191,7 @@ impl<H: BuildHasher> RowMap<H> {
         let Some(text) = id_text(uid) else {
             unreachable!()
         };
-        let id = String::from_str(self.alloc, text)?;
+        let id = Id::from_text(self.alloc, text)?;
         Ok(self.states.insert(id, state)?)
     }
 
@@ -199,6 +199,7 @@ impl<H: BuildHasher> RowMap<H> {
     fn likely_octets(&self) -> usize {
         match self.states.get_index(0) {
             Some((uid, _)) => uid
+                .as_str()
                 .len()
                 .saturating_add(LINE_ROOM)
                 .saturating_mul(self.len()),

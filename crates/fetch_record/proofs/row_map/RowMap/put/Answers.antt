@@ -10,7 +10,7 @@ puts : (g : _) (c : In_ok-insert g)
 puts g c = record {
   key = c.in_ok-id.id;
   rows_are = c.self.view_is;
-  key_is = c.in_ok-id.ensures.ok ∙ c.in-Some.ensures.text;
+  key_is = c.in_ok-id.ensures ∙ c.in-Some.ensures.text;
   fs_is = c.in_ok-insert.ensures.entries;
 }
 
