@@ -18,6 +18,7 @@ from getmail.server import Cut, MeddlingServer, OtherSizes, Server
 from getmail.shared_server import SharedServer
 from harness import preload, programs
 from harness.mboxrd import SEPARATOR, entries, entry, quoted, unquoted
+from harness.noted import noted
 
 THREE = [(b"a", b"one\n"), (b"b", b"two, a text of some octets\n" * 9), (b"c", b"three\n")]
 TEXTS = [text for _, text in THREE]
@@ -109,13 +110,13 @@ class Intents(unittest.TestCase):
                 with self.subTest(length=length, mail=mail[:20]):
                     self.session(first + mail, [2, 3], first + mail + entries(TEXTS[1:]))
 
-    def settle(self, server, account, rest, text=TEXTS[1]):
+    def settle(self, server, account, rest, text=TEXTS[1], **changes):
         """A session finds these octets where an entry was about to be."""
         first = entry(TEXTS[0])
         account.mbox.write_bytes(first + rest)
         account.record.write_bytes(b"getmail-seen 2\na 5 1\nb 5 0\nc 5 0\n! b %d %d\n" % (len(first), len(entry(text))))
         thread = server.begin_session()
-        run = account.run("-q")
+        run = account.run("-q", **changes)
         thread.join(programs.SECONDS)
         return run
 
@@ -160,6 +161,21 @@ class Intents(unittest.TestCase):
                     self.assertEqual(self.settle(server, account, rest, text), programs.SILENT if left is None else told(account))
                     self.assertEqual(account.content(), entries([TEXTS[0], text, TEXTS[2]]))
                     self.assertEqual(account.kept.read_bytes() if account.kept.exists() else None, left)
+
+    def test_a_rest_that_a_killed_run_had_not_flushed(self):
+        """All of it is there, a part or nothing: it is flushed, with its name, before it is cut off from the file."""
+        rest = entry(TEXTS[1])[:100]
+        with noted() as changes:
+            for had in (None, b"", rest[:50], rest):
+                with self.subTest(had=had), Server(THREE) as server, MboxAccount(server.port) as account:
+                    if had is not None:
+                        account.kept.write_bytes(had)
+                    kept = {str(path.stat().st_ino) for path in [account.kept] if path.exists()}
+                    self.assertEqual(self.settle(server, account, rest, **changes.environment()), programs.SILENT)
+                    rows = [words for words, _ in changes.rows()]
+                    kept |= {words[1] for words in rows if words[0] == "make" and words[2].startswith(str(account.kept))}
+                    cut = rows.index(["length", str(account.mbox.stat().st_ino), str(len(entry(TEXTS[0])))])
+                    self.assertEqual(rows[cut - 2:cut], [["flush", *kept], ["flush-folder", str(account.folder)]])
 
     def test_a_rest_that_nobody_knows_is_told_until_it_is_removed(self):
         """A killed run had kept it and its message never comes. Each run that has something to do names it; not one that

@@ -1,3 +1,4 @@
 pub mod Files
 mod MailMoves
 mod MailCalls
+pub mod Kept

@@ -1,10 +1,10 @@
 //! What is cut off from a file, kept in a file of its own.
 
-ghost use Rattle.std.specs.Prelude.{◌≡◌, ◌≤◌, ◌↔◌, length, IsTrue, Ok, OnOk, false, not, true};
-ghost use Rattle.folder_store.specs.{CutOff.{BeginsWith, has_others}, PowerLoss.disk_at};
+ghost use Rattle.std.specs.Prelude.{◌≡◌, ◌≤◌, ◌⊎◌, ◌↔◌, length, IfOk, IsTrue, Ok, OnOk, false, not, true};
+ghost use Rattle.folder_store.specs.{CutOff.{BeginsWith, HasKept, IsKeptDurable, has_others}, PowerLoss.disk_at};
 ghost use Rattle.mail_store.specs.DiskCalls.{AppendsDisk, CutsDisk};
 
-use crate::durable_file::{Appending, append_in, cut_flushed, replace_flushed};
+use crate::durable_file::{Appending, append_in, cut_flushed, flush_both, replace_flushed};
 use crate::file_folder::FileFolder;
 use mail_store::StoreFault;
 
@@ -89,7 +89,9 @@ impl<'a, F> CutOff<'a, F> {
 
 impl<'a, F: FileFolder + Drop> CutOff<'a, F> {
     // The size of the file, which is made unless it is there.
-    fn make(&mut self) -> Result<u64, StoreFault> {
+    fn make(&mut self) -> Result<u64, StoreFault>
+        ensures { self.new ≡ record self.old { folder = self.new.folder } }
+    {
         match self.folder.edges(self.name) {
             Ok(edges) => Ok(edges.size),
             Err(StoreFault::Missing) => {
@@ -109,7 +111,8 @@ impl<'a, F: FileFolder + Drop> CutOff<'a, F> {
         start: u64,
         end: u64,
     ) -> Result<u64, StoreFault>
-        ensures { F.sound other.new → F.sound other.old × (F.directory other.new ≡ F.directory other.old) }
+        ensures same { self.new ≡ record self.old { folder = self.new.folder } }
+        ensures reads { F.sound other.new → F.sound other.old × (F.directory other.new ≡ F.directory other.old) }
     {
         let size = self.make()?;
         let shared = size.min(end.saturating_sub(start));
@@ -128,18 +131,19 @@ impl<'a, F: FileFolder + Drop> CutOff<'a, F> {
         Ok(shared)
     }
 
-    // Keeps the bytes of another file from `start` on, and flushes them. The other file is only read.
-    fn keep(&mut self, other: &mut F, name: &str, start: u64) -> Result<(), StoreFault>
-        ensures keeps { OnOk result (has_others self.new ≡ true) }
+    // Appends the bytes of another file from one place to another, and says where it came to. Refused if the other file
+    // ends before: then another program has cut it.
+    fn copy(&mut self, other: &mut F, name: &str, from: u64, end: u64) -> Result<u64, StoreFault>
+        ensures whole { IfOk result (λ at. end ≤ at) }
+        ensures same { self.new ≡ record self.old { folder = self.new.folder } }
         ensures reads { F.sound other.new → F.sound other.old × (F.directory other.new ≡ F.directory other.old) }
     {
-        let edges = other.edges(name)?;
-        let mut at = start.saturating_add(self.octets_there(other, name, start, edges.size)?);
+        let mut at = from;
         let mut buf = [0u8; PIECE];
-        while at < edges.size {
+        while at < end {
             let count = other.read_at(name, at, &mut buf)?;
             if count == 0 {
-                break;
+                return Err(StoreFault::Refused);
             }
             append_in(
                 &mut self.folder,
@@ -149,24 +153,41 @@ impl<'a, F: FileFolder + Drop> CutOff<'a, F> {
             )?;
             at = at.saturating_add(count as u64);
         }
+        Ok(at)
+    }
+
+    // Keeps the bytes of another file from `start` on, and flushes them, also those that a killed run had kept. The
+    // other file is only read. From the start on it isn't known that what is kept is ours, also if it is refused.
+    #[tactic(auto, using(mail_store::proofs::DiskLemmas::flushed_settled))]
+    fn keep(&mut self, other: &mut F, name: &str, start: u64) -> Result<(), StoreFault>
+        ensures keeps { OnOk result (has_others self.new ≡ true) }
+        ensures unknown { self.new.are_ours ≡ false }
+        ensures durable { OnOk result (IsKeptDurable F.sound F.directory self.new) }
+        ensures reads { F.sound other.new → F.sound other.old × (F.directory other.new ≡ F.directory other.old) }
+    {
         self.may_be_there = true;
-        self.has_kept = true;
         self.are_ours = false;
+        let end = other.edges(name)?.size;
+        let from = start.saturating_add(self.octets_there(other, name, start, end)?);
+        self.copy(other, name, from, end)?;
+        flush_both(&mut self.folder, self.name)?;
+        self.has_kept = true;
         Ok(())
     }
 
     // Whether an entry begins with all that is kept.
-    fn is_in(&mut self, entry: &[u8]) -> Result<bool, StoreFault> {
+    fn is_in(&mut self, entry: &[u8]) -> Result<bool, StoreFault>
+        ensures has { result ≡ Ok true → HasKept F.sound F.directory self.new entry.now }
+        ensures same { self.new ≡ record self.old { folder = self.new.folder } }
+    {
         let mut buf = [0u8; PIECE];
-        let mut at = 0u64;
-        let mut rest = entry;
+        let mut at = 0usize;
         'pieces: loop {
-            let count = self.folder.read_at(self.name, at, &mut buf)?;
-            if count == 0 || !begins_with(rest, &buf[..count]) {
+            let count = self.folder.read_at(self.name, at as u64, &mut buf)?;
+            if count == 0 || !begins_with(&entry[at..], &buf[..count]) {
                 return Ok(count == 0);
             }
-            at = at.saturating_add(count as u64);
-            rest = &rest[count..];
+            at += count;
         }
     }
 
@@ -174,6 +195,8 @@ impl<'a, F: FileFolder + Drop> CutOff<'a, F> {
     fn note(&mut self, bytes: &[u8], is_done: bool)
         ensures refused { self.new.is_refused ≡ not is_done }
         ensures stays { is_done ≡ false → has_others self.new ≡ has_others self.old }
+        ensures ours { self.new.are_ours ≡ true
+            → (self.old.are_ours ≡ true) ⊎ HasKept F.sound F.directory self.new bytes.now }
     {
         if is_done && self.may_be_there {
             self.are_ours = is_known(self.is_in(bytes));
