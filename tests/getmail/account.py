@@ -48,6 +48,13 @@ class Account:
         self.record = self.folder / f"seen-{self.digest}"
         self.lock = self.folder / f"lock-{self.digest}"
 
+    def make_folders(self, *names):
+        """Further folders in the home."""
+        folders = [self.home / name for name in names]
+        for folder in folders:
+            folder.mkdir()
+        return folders
+
     def __enter__(self):
         return self
 

@@ -4,6 +4,7 @@ import re
 import unittest
 
 from getmail.account import MEMORY, Account
+from getmail.mbox_account import MboxAccount
 from getmail.shared_server import SharedServer
 from harness.noted import noted
 from harness.power import BLOCK
@@ -91,6 +92,34 @@ class Flushes(unittest.TestCase):
         path = self.account.maildir / "cur" / f"{self.account.name(*NEW)}:2,S"
         path.write_bytes(NEW[1])
         self.assertEqual(self.flushes_of_run(), [*RELIES, f"cur/{path.name}", "record"])
+
+
+class Links(unittest.TestCase):
+    """A record or an mboxrd file that two links lead to, one behind the other: before the run relies on it, the names of each
+    folder on the way are flushed."""
+
+    def check_each_folder(self, account_class, path_of):
+        with noted() as changes, SharedServer(LETTERS) as server, account_class(server.port) as account:
+            self.assertEqual(account.run("-q").status, 0)
+            server.wait_for_end()
+            path, (one, two) = path_of(account), account.make_folders("one", "two")
+            path.rename(two / "file")
+            (one / "file").symlink_to("../two/file")
+            path.symlink_to(one / "file")
+            server.messages.append(NEW)
+            self.assertEqual(account.run("-q", **changes.environment()).status, 0)
+            server.wait_for_end()
+            rows = changes.rows()
+            fetching = next(place for place, (_, octets) in enumerate(rows) if octets.startswith(b"RETR"))
+            folders = [words[1] for words, _ in rows[:fetching] if words[0] == "flush-folder"]
+            self.assertIn([str(folder) for folder in (one, two, path.parent)],
+                          [folders[place:place + 3] for place in range(len(folders))])
+
+    def test_of_a_record(self):
+        self.check_each_folder(Account, lambda account: account.record)
+
+    def test_of_an_mboxrd_file(self):
+        self.check_each_folder(MboxAccount, lambda account: account.mbox)
 
 
 if __name__ == "__main__":

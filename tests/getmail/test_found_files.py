@@ -78,17 +78,18 @@ class FoundFiles(unittest.TestCase):
         self.check_flushed_first(self.changes_of_run(copies=2), inodes)
 
     def test_what_links_lead_to(self):
-        """The folder that holds it is flushed too: a loss of power may leave a link to nothing."""
+        """Each folder on the way to it is flushed too: a loss of power may leave a link to nothing."""
         self.put()
-        elsewhere = self.account.home / "elsewhere"
-        elsewhere.mkdir()
+        one, two = self.account.make_folders("one", "two")
         for uid, text in LETTERS:
             name = self.account.name(uid, text)
-            (elsewhere / name).write_bytes(text)
-            (self.account.maildir / "cur" / f"{name}:2,S").symlink_to(elsewhere / name)
+            (two / name).write_bytes(text)
+            (one / name).symlink_to(f"../two/{name}")
+            (self.account.maildir / "cur" / f"{name}:2,S").symlink_to(one / name)
         rows = self.changes_of_run()
-        self.check_flushed_first(rows, {path.stat().st_ino for path in elsewhere.iterdir()})
-        self.assertIn(["flush-folder", str(elsewhere)], [words[:2] for words in self.before_the_record(rows)])
+        self.check_flushed_first(rows, {path.stat().st_ino for path in two.iterdir()})
+        folders = [words[1] for words in self.before_the_record(rows) if words[0] == "flush-folder"]
+        self.assertEqual([folders.count(str(folder)) for folder in (one, two)], [len(LETTERS)] * 2)
 
     def check_each(self, more_than, places, changes_at, copies=1):
         """The reader works at one moment of a run, each of them in turn. There are more moments than this number."""

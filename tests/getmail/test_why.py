@@ -65,6 +65,23 @@ class OfMaildirs(Sessions):
     def test_a_folder_that_is_not_flushed(self):
         self.check_unflushed(self.account.maildir / "new")
 
+    def test_a_folder_of_what_a_link_leads_to_that_is_not_flushed(self):
+        """Of a file that is found, and of the record."""
+        elsewhere, = self.account.make_folders("elsewhere")
+        told = f"getmail: u@{LOOPBACK}:{self.server.port}: {elsewhere}: its file system flushes no folders\n".encode()
+        name = self.account.name(*TWO[0])
+        (elsewhere / name).write_bytes(TWO[0][1])
+        (self.account.maildir / "cur" / f"{name}:2,S").symlink_to(elsewhere / name)
+        with preload.library("refuse_call") as library:
+            changes = {"LD_PRELOAD": str(library), "REFUSED_CALL": "folder-flush", "REFUSED_FOLDER": str(elsewhere)}
+            self.server.messages = TWO[:1]
+            self.assertEqual(self.session("--why", **changes), programs.Run(0, b"", told))
+            self.account.record.rename(elsewhere / "record")
+            self.account.record.symlink_to(elsewhere / "record")
+            self.server.messages = list(TWO)
+            self.assertEqual(self.session("--why", **changes), programs.Run(0, b"", told))
+            self.assertEqual(self.session("--why", **changes), programs.SILENT)
+
     def test_what_the_server_said(self):
         self.server.refuses = ("RETR 2",)
         self.check_told("server refused RETR 2", "the server said: -ERR refused")

@@ -60,8 +60,6 @@ pub struct Handles<'a, F: Drop> {
     left: Option<FileState>,
     /// The folder itself, from its first flush on.
     names: Option<Names<'a, F>>,
-    /// Whether the system flushes no folders, so that the names may not be durable.
-    is_unflushed: bool,
 }
 
 impl<'a, F: Drop> Handles<'a, F> {
@@ -73,7 +71,6 @@ impl<'a, F: Drop> Handles<'a, F> {
             watches,
             left: None,
             names: None,
-            is_unflushed: false,
         }
     }
 
@@ -102,11 +99,6 @@ impl<'a, F: Drop> Handles<'a, F> {
     /// The folder itself, if it is open. It is taken out.
     pub fn take_names(&mut self) -> Option<Names<'a, F>> {
         self.names.take()
-    }
-
-    /// Whether the names weren't flushed, because the system flushes no folders.
-    pub fn is_unflushed(&self) -> bool {
-        self.is_unflushed
     }
 }
 
@@ -206,7 +198,6 @@ impl<'a, F: OpenFile + Drop> Handles<'a, F> {
     /// folders.
     pub fn sync_names(&mut self, names: Names<'a, F>) -> Result<bool, Denial> {
         let is_flushed = flush_folder(&names.folder)?;
-        self.is_unflushed |= !is_flushed;
         self.names = Some(names);
         Ok(is_flushed)
     }

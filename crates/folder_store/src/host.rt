@@ -12,10 +12,9 @@ use crate::file_folder::{FileFolder, FolderState, NewFile};
 use crate::handles::{Changed, Handles, Names, bytes_in, piece_in};
 use crate::host_paths::HostPaths;
 use crate::process_mark::ProcessMark;
-use crate::system::{flush_folder, make_file, parts_of, sweep};
+use crate::system::{flush_targets, make_file, sweep};
 use mail_store::{Edges, StoreFault};
 use std::alloc::{AllocError, Global};
-use std::fs;
 use std::fs::{Metadata, OpenFile, OpenOptions};
 use std::io::{ErrorKind, Write};
 use std::rt::Files;
@@ -38,6 +37,9 @@ pub struct HostFolder<'a, R: Files> {
     system: &'a System<'a, R>,
     paths: HostPaths<'a>,
     handles: Handles<'a, R::File>,
+    /// The path of a folder whose names weren't flushed, because the system flushes no folders: of this one, or of one
+    /// that holds what a link leads to.
+    unflushed: Option<String>,
 }
 
 /// A file of the machine's file system that was made, and its path.
@@ -71,6 +73,7 @@ impl<'a, R: Files + AllocGlobal> HostFolder<'a, R> {
                 mark,
             },
             handles: Handles::new(false, false),
+            unflushed: None,
         }
     }
 
@@ -99,6 +102,7 @@ impl<'a, R: Files + AllocGlobal> HostFolder<'a, R> {
                 mark,
             },
             handles: Handles::new(keeps_handle, !keeps_handle),
+            unflushed: None,
         }
     }
 
@@ -160,13 +164,10 @@ impl<'a, R: Files + AllocGlobal> HostFolder<'a, R> {
         }
     }
 
-    /// The path of the folder, if its names weren't flushed because the system flushes no folders.
+    /// The path of a folder whose names weren't flushed because the system flushes no folders, if there is one: of this
+    /// one, or of one that holds what a link leads to.
     pub fn unflushed(&self) -> Option<String> {
-        if self.handles.is_unflushed() {
-            self.paths.folder_path().ok()
-        } else {
-            None
-        }
+        String::from_str(self.system.alloc(), self.unflushed.as_ref()?.as_str()).ok()
     }
 
     // Why the folder isn't used.
@@ -290,7 +291,8 @@ impl<'a, R: Files + AllocGlobal> HostFolder<'a, R> {
             return Ok(());
         }
         let file = self.open_regular(name)?;
-        file.at(file.sync_all())
+        file.at(file.sync_all())?;
+        self.sync_targets(name)
     }
 
     // Opens a regular file, or one that a link leads to, if the name is still there. It is refused if the name
@@ -312,13 +314,14 @@ impl<'a, R: Files + AllocGlobal> HostFolder<'a, R> {
         Ok(Some(file))
     }
 
-    // Flushes the bytes of such a file, and says whether the name is still there; None if it can't be opened.
-    pub(crate) fn sync_if_there(&self, name: &str) -> Result<Option<bool>, Denial> {
+    // Flushes the bytes of such a file, and says whether the name is still there; None if it can't be opened. A file
+    // that is no link may go away once it is open.
+    pub(crate) fn sync_if_there(&mut self, name: &str) -> Result<Option<bool>, Denial> {
+        let is_link = self.is_link(name);
         match self.open_if_there(name) {
             Ok(Some(file)) => {
                 file.at(file.sync_all())?;
-                self.sync_target(name)?;
-                Ok(Some(true))
+                Ok(Some(!is_link || self.are_targets_synced(name)?))
             }
             Ok(None) => Ok(Some(false)),
             Err(fault) if self.is_odd(name, &fault) => Ok(None),
@@ -326,16 +329,24 @@ impl<'a, R: Files + AllocGlobal> HostFolder<'a, R> {
         }
     }
 
-    // Flushes the folder that holds what a link leads to: else the name there may not be durable.
-    fn sync_target(&self, name: &str) -> Result<(), Denial> {
-        if !self.is_link(name) {
-            return Ok(());
+    // Flushes the folders that hold what a link leads to. False if one of the links went away meanwhile.
+    fn are_targets_synced(&mut self, name: &str) -> Result<bool, Denial> {
+        match self.sync_targets(name) {
+            Err(fault) if fault.kind() == ErrorKind::NotFound => Ok(false),
+            answer => {
+                answer?;
+                Ok(true)
+            }
         }
+    }
+
+    // The same, if the name is that of a link: else its file's name may not be durable.
+    fn sync_targets(&mut self, name: &str) -> Result<(), Denial> {
         let path = self.paths.path_of(name)?;
-        let path = path.as_str();
-        let target = fs::canonicalize(self.system.rt, path);
-        let target = self.system.asked("realpath", path, target)?.into_string();
-        flush_folder(&self.system.open(parts_of(target.as_str()).0)?)?;
+        let unflushed = flush_targets(self.system, path)?;
+        if self.unflushed.is_none() {
+            self.unflushed = unflushed;
+        }
         Ok(())
     }
 
@@ -390,12 +401,20 @@ impl<'a, R: Files + AllocGlobal> HostFolder<'a, R> {
     // files are put there by their paths.
     pub(crate) fn sync_names(&mut self) -> Result<bool, Denial> {
         let path = self.paths.folder_path()?;
+        let is_flushed = self.sync_names_at(path.as_str())?;
+        if !is_flushed {
+            self.unflushed = Some(path);
+        }
+        Ok(is_flushed)
+    }
+
+    fn sync_names_at(&mut self, path: &str) -> Result<bool, Denial> {
         if let Some(names) = self.handles.take_names() {
-            if names.is_of(&self.system.stat(path.as_str())?) {
+            if names.is_of(&self.system.stat(path)?) {
                 return self.handles.sync_names(names);
             }
         }
-        let names = Names::of(self.system.open(path.as_str())?)?;
+        let names = Names::of(self.system.open(path)?)?;
         self.handles.sync_names(names)
     }
 }

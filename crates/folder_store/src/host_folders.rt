@@ -123,7 +123,7 @@ impl<'a, R: Files + Clock + AllocGlobal + Clone + Drop> HostFolders<'a, R> {
 
     // Flushes the files with one of these stems, all of which are wanted, that both folders have at one moment. If
     // `new` changed while they were listed, a reader may have moved one past the listing: then none counts as found.
-    fn sync_pass(&self, wanted: Wanted<'_>, stems: &[&str]) -> Result<Vec<Found>, Denial> {
+    fn sync_pass(&mut self, wanted: Wanted<'_>, stems: &[&str]) -> Result<Vec<Found>, Denial> {
         let in_new = self.new_folder.host.read_names(wanted)?;
         let in_cur = self.cur_folder.host.read_names(wanted)?;
         let now = self.new_folder.host.look_at_folder()?;
@@ -135,21 +135,21 @@ impl<'a, R: Files + Clock + AllocGlobal + Clone + Drop> HostFolders<'a, R> {
 
     // Flushes those that have one of these stems among the files with these names in `new` and in `cur`.
     fn sync_listed(
-        &self,
+        &mut self,
         in_new: Vec<String>,
         in_cur: Vec<String>,
         stems: &[&str],
     ) -> Result<Vec<Found>, Denial> {
         let mut found = Vec::new(self.system.alloc());
         let stems = set_of(self.system.alloc(), stems)?;
-        sync_named(&self.new_folder.host, in_new, &stems, &mut found)?;
-        sync_named(&self.cur_folder.host, in_cur, &stems, &mut found)?;
+        sync_named(&mut self.new_folder.host, in_new, &stems, &mut found)?;
+        sync_named(&mut self.cur_folder.host, in_cur, &stems, &mut found)?;
         Ok(found)
     }
 
     // Flushes the files that have one of these stems. False, only if `may_miss`, if one of the stems has none, or
     // readers move its files all the time.
-    fn sync_all_of(&self, stems: &[String], may_miss: bool) -> Result<bool, Denial>
+    fn sync_all_of(&mut self, stems: &[String], may_miss: bool) -> Result<bool, Denial>
         ensures { result ≡ Ok false → may_miss ≡ true }
     {
         let mut left = texts_of(self.system.alloc(), stems)?;
@@ -288,7 +288,7 @@ fn set_of<'b>(alloc: Global, texts: &[&'b str]) -> Result<BTreeSet<&'b str>, All
 
 /// Flushes those of a folder's files that have one of these stems. What can't be opened is none.
 fn sync_named<R: Files + AllocGlobal>(
-    host: &HostFolder<'_, R>,
+    host: &mut HostFolder<'_, R>,
     names: Vec<String>,
     stems: &BTreeSet<&str>,
     found: &mut Vec<Found>,
@@ -343,7 +343,8 @@ impl<'a, R: Files + Clock + AllocGlobal + Clone + Drop> MailFolders for HostFold
 
     // A file that a reader moves meanwhile is looked up again.
     fn flush_files(&mut self, stems: &[String], may_miss: bool) -> Result<bool, StoreFault> {
-        answer_of(self.system.refusals, self.sync_all_of(stems, may_miss))
+        let answer = self.sync_all_of(stems, may_miss);
+        answer_of(self.system.refusals, answer)
     }
 
     fn make(&mut self, name: &str) -> Result<HostNewFile<'a, R>, StoreFault> {

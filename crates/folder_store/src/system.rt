@@ -7,6 +7,7 @@ use crate::process_mark::is_marked;
 use std::fs::{Metadata, OpenFile, OpenOptions};
 use std::io::ErrorKind;
 use std::os::unix::fs::OpenOptionsExt;
+use std::path::PathBuf;
 use std::rt::Files;
 use std::time::{Clock, SystemTime};
 use std::{fs, io};
@@ -15,6 +16,9 @@ use system_calls::{Denial, Noted, System};
 /// How many seconds nothing is written to a file before it counts as left behind. A run at work waits
 /// for the server for three minutes at most.
 const LEFT_BEHIND_SECONDS: u64 = 3_600;
+
+/// How many links the system follows in a path, at most.
+const MOST_LINKS: u32 = 40;
 
 /// Makes an empty file; fails if there is one. Its owner alone can read and write it (mode 0600).
 pub fn make_file<'a, R: Files + AllocGlobal>(
@@ -54,6 +58,35 @@ pub fn parts_of(path: &str) -> (&str, &str)
         return ("/", name);
     }
     (folder, name)
+}
+
+/// Flushes the names of each folder that holds what a path leads to by way of links: else a loss of power may leave a
+/// link to nothing. The path of one that isn't flushed, because the system flushes no folders.
+pub fn flush_targets<R: Files + AllocGlobal>(
+    system: &System<'_, R>,
+    path: String,
+) -> Result<Option<String>, Denial> {
+    let mut path = path;
+    let mut unflushed = None;
+    for _ in 0..MOST_LINKS {
+        if !system.lstat(path.as_str())?.is_symlink() {
+            break;
+        }
+        path = target_of(system, path.as_str())?;
+        let folder = parts_of(path.as_str()).0;
+        if !flush_folder(&system.open(folder)?)? {
+            unflushed = Some(String::from_str(system.alloc(), folder)?);
+        }
+    }
+    Ok(unflushed)
+}
+
+/// The path that a link leads to, absolute or taken from the link's folder.
+fn target_of<R: Files + AllocGlobal>(system: &System<'_, R>, link: &str) -> Result<String, Denial> {
+    let target = system.asked("readlink", link, fs::read_link(system.rt, link))?;
+    let mut path = PathBuf::from_str(system.alloc(), parts_of(link).0)?;
+    path.push(target.as_str())?;
+    Ok(path.into_string())
 }
 
 /// Whether this is a regular file that was changed last so long ago that no run is writing it.
