@@ -2,10 +2,10 @@
 use Rattle.std.{
   proofs.Common.{All, Bool, Bor, IfNone, IfSome, List, MatchOption, None, Option, Some, [], ap, append_assoc, ap₂, arith, decimal, drop, ℕ},
   proofs.Common.{false, get_or, if◌then◌else◌, inl, inr, length, lit<, nat_eq, nat_le, nat_lt, refl, subst, sym, take, true, ◌&&◌, ◌++◌},
-  proofs.Common.{◌+◌, ◌<◌, ◌^◌, ◌∙◌, ◌∷◌, ◌≡◌, ◌≢◌, ◌≤◌},
-  proofs.lemmas.{Bool.{and_parts, cases_eq, leb-true, Decides.Decides-eqb}, List.Elements.recursion_from_All, Slice.Eq.strip_prefix_is},
+  proofs.Common.{◌+◌, ◌-◌, ◌<◌, ◌^◌, ◌∙◌, ◌∷◌, ◌≡◌, ◌≢◌, ◌≤◌},
+  proofs.lemmas.{Bool.{and_parts, cases_eq, leb-true, Decides.Decides-eqb}, List.{Elements.recursion_from_All, length-append}},
   proofs.lemmas.{Fmt.{decimal-digits_value, decimal_digit, decimal_injective, decimal_is_IsNumeral, first_decimal}, Str.Parse.digit_at},
-  proofs.lemmas.Option.{cond_some, none-some},
+  proofs.{Math.Seq.{drop-append_seam, take-append_seam}, lemmas.{Option.{cond_some, none-some}, Slice.Eq.strip_prefix_is}},
   specs.{Char.is_ascii_digit, Cmp.Lexicographic.pointwise, Str.Parse.digits_value, List.{AllByRecursion, list_all}},
 }
 use Rattle.mail_terms.{
@@ -16,6 +16,16 @@ use Rattle.fetch_record.specs.{
   Record.{Intent, Row},
   RecordFile.{GroupLine, IntentLine, IsRecordLine, Line, RowLine, group_line, intent_line, record_row_line, delivered_octets, record_line},
 }
+
+-- ---- lines in front of others
+
+-- what was appended and then turned to the front is in front
+pub rotated : (xs ys : List ℕ)
+    → drop (length (xs ++ ys) - length ys) (xs ++ ys) ++ take (length (xs ++ ys) - length ys) (xs ++ ys) ≡ ys ++ xs
+rotated xs ys = rw (seam, drop-append_seam xs ys, take-append_seam xs ys) refl
+  where
+    seam : length (xs ++ ys) - length ys ≡ length xs
+    seam = omega (arith, length-append xs ys)
 
 -- ---- numerals without leading zeros
 

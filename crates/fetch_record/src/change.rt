@@ -183,6 +183,6 @@ impl<H: BuildHasher> RowMap<H> {
             write_line(alloc, &mut lines, uid, state)?;
             changes += 1;
         }
-        group(alloc, changes, &lines)
+        group(alloc, changes, lines)
     }
 }

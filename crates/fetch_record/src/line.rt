@@ -176,19 +176,29 @@ pub(crate) fn row_group(alloc: Global, uid: &[u8], state: State) -> Result<Vec<u
 {
     let mut line = Vec::new(alloc);
     write_line(alloc, &mut line, uid, state)?;
-    group(alloc, 1, &line)
+    group(alloc, 1, line)
+}
+
+/// Puts bytes in front of others, in the memory that these have.
+#[tactic(auto, using(crate::proofs::LineLemmas::rotated))]
+fn put_in_front(bytes: &mut Vec<u8>, front: &[u8]) -> Result<(), AllocError>
+    ensures { OnOk result (bytes.new.items ≡ front.now ++ bytes.old.items) }
+{
+    bytes.extend_from_slice(front)?;
+    bytes.rotate_right(front.len());
+    Ok(())
 }
 
 /// The group of `count` lines; empty if there are none.
-pub(crate) fn group(alloc: Global, count: usize, lines: &[u8]) -> Result<Vec<u8>, AllocError>
-    ensures { (rows : List Row) → length rows ≡ count → flat_map record_row_line rows ≡ lines.now
+pub(crate) fn group(alloc: Global, count: usize, lines: Vec<u8>) -> Result<Vec<u8>, AllocError>
+    ensures { (rows : List Row) → length rows ≡ count → flat_map record_row_line rows ≡ lines.items
         → IfOk result (λ bytes. bytes.items ≡ written rows) }
 {
     if count == 0 {
         return Ok(Vec::new(alloc));
     }
     let first = format!(in alloc; "+ {count}\n")?;
-    let mut bytes = Vec::from_slice(alloc, first.as_bytes())?;
-    bytes.extend_from_slice(lines)?;
+    let mut bytes = lines;
+    put_in_front(&mut bytes, first.as_bytes())?;
     Ok(bytes)
 }

@@ -49,7 +49,7 @@ loop-place-preserved g c =
 pub returns : goal.returns
 returns g c =
     let all = rw (take_all c.loop-place.place c.args.self.now (omega arith)) at c.loop-place.invariant.0 in
-    c.group.ensures _ (sym all.0) (sym all.1 ∙ sym c.deref.ensures.value)
+    c.group.ensures _ (sym all.0) (sym all.1)
 
 pub returns-then-are_delivered : goal.returns-then-are_delivered
 returns-then-are_delivered g c =
