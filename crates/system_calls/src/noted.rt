@@ -1,5 +1,5 @@
 //! An open file, folder or connection whose refused calls are shown.
-ghost use Rattle.std.specs.Prelude.{◌≡◌, IfOk, Ok};
+ghost use Rattle.std.specs.Prelude.{◌≡◌, Err, IfErr, IfOk, IfSome, IsSomeAnd, Ok, false, string_bytes, true};
 
 use crate::refusal::Denial;
 use crate::refusals::Refusals;
@@ -22,7 +22,8 @@ impl<'a, S> Noted<'a, S> {
     /// What is open at this path, or the connection of this name; what is refused to it is kept too. Without memory
     /// for the path, none is known.
     pub fn new(alloc: Global, inner: S, path: &str, refusals: &'a Refusals) -> Noted<'a, S>
-        ensures { result.inner ≡ inner }
+        ensures inner { (result.inner ≡ inner) × (result.keeps ≡ true) }
+        ensures path { IfSome result.path (λ own. string_bytes own ≡ path.now) }
     {
         Noted {
             keeps: true,
@@ -32,7 +33,8 @@ impl<'a, S> Noted<'a, S> {
 
     /// The same, but what is refused to it is only shown.
     pub fn shown(alloc: Global, inner: S, path: &str, refusals: &'a Refusals) -> Noted<'a, S>
-        ensures { result.inner ≡ inner }
+        ensures inner { (result.inner ≡ inner) × (result.keeps ≡ false) }
+        ensures path { IfSome result.path (λ own. string_bytes own ≡ path.now) }
     {
         Noted {
             inner,
@@ -45,7 +47,9 @@ impl<'a, S> Noted<'a, S> {
 
     /// The answer of a call of this, with its path.
     pub fn at<T>(&self, answer: io::Result<T>) -> Result<T, Denial>
-        ensures { IfOk result (λ value. answer ≡ Ok value) }
+        ensures done { IfOk result (λ value. answer ≡ Ok value) }
+        ensures denied { IfErr result (λ denial. (answer ≡ Err denial.error) × IfSome denial.path (λ own.
+            IsSomeAnd self.now.path (λ path. string_bytes own ≡ string_bytes path))) }
     {
         match answer {
             Ok(value) => Ok(value),

@@ -38,7 +38,8 @@ impl Refusal {
 impl Denial {
     /// An error about a path.
     pub fn of(alloc: Global, path: &str, error: io::Error) -> Denial
-        ensures { result.error ≡ error }
+        ensures error { result.error ≡ error }
+        ensures path { IfSome result.path (λ own. string_bytes own ≡ path.now) }
     {
         let path = if is_want_of_memory(&error) {
             None
@@ -49,7 +50,9 @@ impl Denial {
     }
 
     /// A refusal of what the system would grant, with the reason in words.
-    pub fn because(alloc: Global, path: &str, words: &str) -> Denial {
+    pub fn because(alloc: Global, path: &str, words: &str) -> Denial
+        ensures { IfSome result.path (λ own. string_bytes own ≡ path.now) }
+    {
         Denial::of(alloc, path, io::Error::other(words))
     }
 

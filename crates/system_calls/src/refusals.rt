@@ -1,5 +1,5 @@
 //! What is refused to a device or a connection.
-ghost use Rattle.std.specs.Prelude.{◌≡◌, IfOk, Ok};
+ghost use Rattle.std.specs.Prelude.{◌≡◌, Err, IfErr, IfOk, IfSome, IsErrAnd, Ok, string_bytes};
 
 use crate::refusal::{Denial, Refusal, is_want_of_memory, tell_refusal};
 use std::alloc::Global;
@@ -40,7 +40,9 @@ impl Refusals {
 
     /// The answer of a call of the system, which is shown if it is a refusal.
     pub fn asked<T>(&self, call: &str, path: &str, answer: io::Result<T>) -> Result<T, Denial>
-        ensures { IfOk result (λ value. answer ≡ Ok value) }
+        ensures done { IfOk result (λ value. answer ≡ Ok value) }
+        ensures denied { IfErr result (λ denial. (answer ≡ Err denial.error)
+            × IfSome denial.path (λ own. string_bytes own ≡ path.now)) }
     {
         match answer {
             Ok(value) => Ok(value),
@@ -53,7 +55,8 @@ impl Refusals {
 
     /// The answer of a device's call. Why it was refused is kept.
     pub fn kept<T>(&self, answer: Result<T, Denial>) -> io::Result<T>
-        ensures { IfOk result (λ value. answer ≡ Ok value) }
+        ensures done { IfOk result (λ value. answer ≡ Ok value) }
+        ensures denied { IfErr result (λ error. IsErrAnd answer (λ denial. denial.error ≡ error)) }
     {
         match answer {
             Ok(value) => Ok(value),

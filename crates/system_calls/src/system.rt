@@ -1,5 +1,5 @@
 //! The machine's file system, whose refused calls are shown.
-ghost use Rattle.std.specs.Prelude.{◌≡◌, IfOk, Ok};
+ghost use Rattle.std.specs.Prelude.{◌≡◌, ◌++◌, Err, IfErr, IfOk, IfSome, Ok, codes, string_bytes};
 
 use crate::noted::Noted;
 use crate::refusal::Denial;
@@ -30,7 +30,9 @@ impl<'a, R: AllocGlobal> System<'a, R> {
 
     /// The answer of a call of the system, which is shown if it is a refusal.
     pub fn asked<T>(&self, call: &str, path: &str, answer: io::Result<T>) -> Result<T, Denial>
-        ensures { IfOk result (λ value. answer ≡ Ok value) }
+        ensures done { IfOk result (λ value. answer ≡ Ok value) }
+        ensures denied { IfErr result (λ denial. (answer ≡ Err denial.error)
+            × IfSome denial.path (λ own. string_bytes own ≡ path.now)) }
     {
         self.refusals.asked(call, path, answer)
     }
@@ -86,7 +88,9 @@ impl<'a, R: Files + AllocGlobal> System<'a, R> {
         to: &str,
         answer: io::Result<()>,
     ) -> Result<(), Denial>
-        ensures { IfOk result (λ value. answer ≡ Ok value) }
+        ensures done { IfOk result (λ value. answer ≡ Ok value) }
+        ensures denied { IfErr result (λ denial. IfSome denial.path (λ own.
+            string_bytes own ≡ from.now ++ (codes " to " ++ to.now))) }
     {
         if answer.is_ok() {
             return Ok(());
