@@ -116,7 +116,7 @@ impl<'a, E: Write> Trace<'a, E> {
         self.write("S: ", text.as_bytes())
     }
 
-    /// ShowsHeard what was heard.
+    /// Shows what was heard.
     fn show(&mut self, heard: &Spoken<'_>) -> io::Result<()>
         ensures shown { OnOk result (ShowsHeard E.contents self.old heard.now self.new.err) }
         ensures same { self.new ≡ record self.old { err = self.new.err } }
@@ -129,7 +129,7 @@ impl<'a, E: Write> Trace<'a, E> {
         }
     }
 
-    /// ShowsHeard a part of the conversation, unless it is within a body, and keeps what tells where it went wrong.
+    /// Shows a part of the conversation, unless it is within a body, and keeps what tells where it went wrong.
     fn note(&mut self, part: Note<'_>) -> io::Result<()>
         ensures shown { OnOk result (ShowsPart E.contents self.old part.entry self.new) }
         ensures same { self.new.mask.password ≡ self.old.mask.password }
