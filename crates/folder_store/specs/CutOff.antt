@@ -21,8 +21,8 @@ abbrev pub HasAll : (entry : List ℕ) → Directory → (name : List ℕ) → T
 HasAll entry d name = (was : List ℕ) × (content_at d name ≡ Some was) × BeginsWith entry was
 
 -- it begins with all that is kept, if the folder did what its calls promise
-abbrev pub HasKept : {F : Type 0} → (F → Type 0) → (F → Directory) → CutOff F → (entry : List ℕ) → Type 0
-HasKept sound directory kept entry = sound kept.folder → HasAll entry (directory kept.folder) kept.name.now
+abbrev pub HasAllKept : {F : Type 0} → (F → Type 0) → (F → Directory) → CutOff F → (entry : List ℕ) → Type 0
+HasAllKept sound directory kept entry = sound kept.folder → HasAll entry (directory kept.folder) kept.name.now
 
 -- the file in which it is kept, and its name, are durable, if the folder did what its calls promise
 abbrev pub IsKeptDurable : {F : Type 0} → (F → Type 0) → (F → Directory) → CutOff F → Type 0

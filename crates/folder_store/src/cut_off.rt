@@ -1,7 +1,7 @@
 //! What is cut off from a file, kept in a file of its own.
 
 ghost use Rattle.std.specs.Prelude.{◌≡◌, ◌≤◌, ◌⊎◌, ◌↔◌, length, IfOk, IsTrue, Ok, OnOk, false, not, true};
-ghost use Rattle.folder_store.specs.{CutOff.{BeginsWith, HasKept, IsKeptDurable, has_others}, PowerLoss.disk_at};
+ghost use Rattle.folder_store.specs.{CutOff.{BeginsWith, HasAllKept, IsKeptDurable, has_others}, PowerLoss.disk_at};
 ghost use Rattle.mail_store.specs.DiskCalls.{AppendsDisk, CutsDisk};
 
 use crate::durable_file::{Appending, append_in, cut_flushed, flush_both, replace_flushed};
@@ -177,7 +177,7 @@ impl<'a, F: FileFolder + Drop> CutOff<'a, F> {
 
     // Whether an entry begins with all that is kept.
     fn is_in(&mut self, entry: &[u8]) -> Result<bool, StoreFault>
-        ensures has { result ≡ Ok true → HasKept F.sound F.directory self.new entry.now }
+        ensures has { result ≡ Ok true → HasAllKept F.sound F.directory self.new entry.now }
         ensures same { self.new ≡ record self.old { folder = self.new.folder } }
     {
         let mut buf = [0u8; PIECE];
@@ -196,7 +196,7 @@ impl<'a, F: FileFolder + Drop> CutOff<'a, F> {
         ensures refused { self.new.is_refused ≡ not is_done }
         ensures stays { is_done ≡ false → has_others self.new ≡ has_others self.old }
         ensures ours { self.new.are_ours ≡ true
-            → (self.old.are_ours ≡ true) ⊎ HasKept F.sound F.directory self.new bytes.now }
+            → (self.old.are_ours ≡ true) ⊎ HasAllKept F.sound F.directory self.new bytes.now }
     {
         if is_done && self.may_be_there {
             self.are_ours = is_known(self.is_in(bytes));
