@@ -2,7 +2,9 @@
 ghost use Rattle.std.specs.{
   Prelude.{◌≡◌, ◌++◌, IfNone, IfOk, IfSome, None, OnOk, Some, codes},
   String.string_bytes,
+  IoError.error_kind,
 };
+ghost use Rattle.std.specs.declared.io.ErrorKind.TheVariants.{OutOfMemory};
 ghost use Rattle.system_calls.specs.Line.{TellsRefusal};
 
 use crate::line::{shown, write_line};
@@ -51,13 +53,16 @@ impl Denial {
 
     /// A refusal of what the system would grant, with the reason in words.
     pub fn because(alloc: Global, path: &str, words: &str) -> Denial
-        ensures { IfSome result.path (λ own. string_bytes own ≡ path.now) }
+        ensures kind { error_kind result.error ≡ ErrorKind.Other }
+        ensures path { IfSome result.path (λ own. string_bytes own ≡ path.now) }
     {
         Denial::of(alloc, path, io::Error::other(words))
     }
 
     /// What kind of error it is.
-    pub fn kind(&self) -> ErrorKind {
+    pub fn kind(&self) -> ErrorKind
+        ensures { result ≡ error_kind self.now.error }
+    {
         self.error.kind()
     }
 
@@ -88,7 +93,7 @@ impl Denial {
 }
 
 impl From<AllocError> for Denial {
-    ghost from_gives = { λ _ denial. denial.path ≡ None };
+    ghost from_gives = { λ _ denial. (denial.path ≡ None) × (error_kind denial.error ≡ OutOfMemory) };
 
     fn from(_error: AllocError) -> Denial {
         Denial {
@@ -99,7 +104,7 @@ impl From<AllocError> for Denial {
 }
 
 impl<T: Drop> From<AllocFailed<T>> for Denial {
-    ghost from_gives = { λ _ denial. denial.path ≡ None };
+    ghost from_gives = { λ _ denial. (denial.path ≡ None) × (error_kind denial.error ≡ OutOfMemory) };
 
     fn from(_error: AllocFailed<T>) -> Denial {
         Denial::from(AllocError)

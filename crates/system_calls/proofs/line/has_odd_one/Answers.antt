@@ -1,4 +1,4 @@
-use Rattle.std.proofs.{Common.{refl, rules}, lemmas.Iterator.{Search.any_from_yields_List, YieldsList-from_chars}}
+use Rattle.std.proofs.{Common.{rules}, lemmas.Iterator.{Search.any_from_yields_List, YieldsList-from_chars}}
 use Rattle.system_calls.specs.Line.{changes_lines}
 use Rattle.system_calls.proofs.line.has_odd_one.Goals as goal
 
