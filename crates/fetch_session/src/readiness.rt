@@ -270,10 +270,14 @@ fn take_in<F: FlatFile, H: BuildHasher>(
         × OnOk result (IsSafeFile F.FlatFile file.new) }
 {
     seen.close(found.stored);
-    let group = seen.merge_rows(listing, &found.held, now)?;
-    if seen.needs_rewrite() || (is_new && !group.is_empty()) {
-        return save(file, seen);
+    if is_new || seen.needs_rewrite() {
+        let changed = seen.merge(listing, &found.held, now)?;
+        if changed || seen.needs_rewrite() {
+            return save(file, seen);
+        }
+        return Ok(());
     }
+    let group = seen.merge_rows(listing, &found.held, now)?;
     grow(file, &group)
 }
 
