@@ -14,9 +14,9 @@ use Rattle.mail_terms.specs.{MaildirName.base, UniqueId.is_legal_id}
 use Rattle.pop3_server.specs.Maildrop.{ListedMessage, max_count, max_size}
 use Rattle.folder_drop.specs.{
   declared.listed_file.ListedFile.ListedFile,
-  Listing.{same_key, bases_of, AreListed, AreSeen, IsBefore, FollowsLast, MayBeListed},
+  Listing.{same_key, bases_of, AreListed, AreSeen, FollowsLast, MayBeListed, size_of_entry, size_of_file},
   MaildirNames.{id_of, digest_length},
-  RealMaildir.{HaveIds, id_of_name, listed_name, listed_names, uid_of},
+  RealMaildir.{HaveIds, IsBefore, id_of_name, listed_name, listed_names, uid_of},
 }
 
 -- ---- ids
@@ -81,7 +81,7 @@ other_id : {Z S : Type 0} (seen : HashSet (Vec ℕ Z) S) (files : List ListedFil
     → get_or (map id_of_name (listed_names files)) k d ≢ id_of name
 other_id seen files None name listed next k d within same =
     let fits : k < length files = subst (λ n. k < n) (length-map (listed_names files) id_of_name ∙ names_long files) within in
-    let before = behind_all files name listed.ascending next.behind k d (rw (bases_long files) fits) in
+    let before = behind_all files name listed.messages.ascending next.behind k d (rw (bases_long files) fits) in
     not_before _ name before (same_base _ name (sym (id_at files k d fits) ∙ same) next.is_key)
 other_id seen files (Some key) name listed next k d within same =
     let is : get_or (map id_of_name (listed_names files)) k d ≡ key.items = same ∙ sym next.is_key.0 in
@@ -103,6 +103,16 @@ entry_more entries files i entry file fits is same ids =
     ∙ ap (λ (f : ListedFile). take i files ++ f ∷ []) (sym is) in
     rw (map_push uid_of entries entry, more, names_more (take i files) file id_of_name, ids, same) refl
 
+-- and its size
+pub size_more : (entries : List ListedMessage) (files : List ListedFile) (i : ℕ) (entry : ListedMessage)
+    (file : ListedFile) → i < length files → file ≡ get_or files i file → entry.size ≡ file.size
+    → map size_of_entry entries ≡ map size_of_file (take i files)
+    → map size_of_entry (entries ++ entry ∷ []) ≡ map size_of_file (take (i + 1) files)
+size_more entries files i entry file fits is same sizes =
+    let more : take (i + 1) files ≡ take i files ++ file ∷ [] = take_more files i file fits
+    ∙ ap (λ (f : ListedFile). take i files ++ f ∷ []) (sym is) in
+    rw (map_push size_of_entry entries entry, more, map_push size_of_file (take i files) file, sizes, same) refl
+
 -- one more file is listed, and its id is in the set if that is as long as a digest
 pub listed_more : {Z S : Type 0} (old new : HashSet (Vec ℕ Z) S) (key : Option (Vec ℕ Z)) (files : List ListedFile) (file : ListedFile)
     → AreSeen new (map id_of_name (listed_names files) ++ id_of_name (listed_name file) ∷ [])
@@ -110,14 +120,15 @@ pub listed_more : {Z S : Type 0} (old new : HashSet (Vec ℕ Z) S) (key : Option
     → length files < max_count → file.size ≤ max_size → AreListed old files → AreListed new (files ++ file ∷ [])
 listed_more old new key files file seen next few small listed = record {
   messages = record {
+    ascending = rw (names_more files file base) (all_pairs_push IsBefore (bases_of files) (base (listed_name file))
+        listed.messages.ascending
+        (behind_all files (base (listed_name file)) listed.messages.ascending next.behind));
     distinct = rw (names_more files file id_of_name)
         (all_pairs_push (λ a b. a ≢ b) (map id_of_name (listed_names files)) (id_of_name (listed_name file))
         listed.messages.distinct (other_id old files key (base (listed_name file)) listed next));
     count = let long = length_push files file in omega (arith, long, few);
     sizes = All-push (λ (f : ListedFile). f.size ≤ max_size) files file listed.messages.sizes small;
   };
-  ascending = rw (names_more files file base) (all_pairs_push IsBefore (bases_of files) (base (listed_name file)) listed.ascending
-      (behind_all files (base (listed_name file)) listed.ascending next.behind));
   keys = rw (names_more files file id_of_name) seen;
 }
 

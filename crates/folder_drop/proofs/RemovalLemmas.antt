@@ -14,9 +14,9 @@ use Rattle.folder_drop.specs.{
     listed_file.ListedFile.ListedFile,
     mail_files.{FileNumber.FileNumber, FileWay.FileWay, Found.Found},
     maildir_names.PlacedFile.PlacedFile,
-    removal.Namesake.Namesake,
+    removal.{Namesake.Namesake, TwoMessages.TwoMessages},
   },
-  Removal.{AreNamesakes, IsNamesake, IsOther, MayGo, WereCompared, if_any},
+  Removal.{AreNamesakes, IsNamesake, IsOther, MayGo, RemovesMessage, WereCompared, if_any},
 }
 
 pub namesake_more : (found : FileWay → Found → Type 0) (listed : ListedFile) (seen : List PlacedFile) (files : List Namesake)
@@ -125,3 +125,17 @@ false_from false e = refl
 pub some_from : (n : ℕ) → (n == 0) ≡ false → 0 < n
 some_from n e = ⊎_elim (λ (is : n ≡ 0). absurd (false≢true (sym (subst (λ (m : ℕ). (m == 0) ≡ false) is e))))
     (λ (other : n ≢ 0). omega (arith, other)) (cases_eq n 0)
+
+-- the same by what follows of the files that were seen
+pub by_those : {File : Type 0} (remaining : File → Option (List ℕ)) (found : FileWay → Found → Type 0)
+    (opened : FileWay → FileNumber → File → Type 0) (removed : FileWay → FileNumber → Type 0)
+    (were other : List PlacedFile → Type 0) (listed : ListedFile) (told : Option TwoMessages)
+    → ((from : List PlacedFile) → were from → other from)
+    → RemovesMessage remaining found opened removed were listed told → RemovesMessage remaining found opened removed other listed told
+by_those remaining found opened removed were other listed told follows removes = record {
+  from = removes.from;
+  were = follows removes.from removes.were;
+  these = removes.these;
+  have = removes.have;
+  removes = removes.removes;
+}

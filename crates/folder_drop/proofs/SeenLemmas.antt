@@ -5,8 +5,8 @@ use Rattle.std.{
   proofs.Common.{arith, ⊎_elim},
   proofs.lemmas.{
     Bool.{cases_lt, false≢true},
-    Cmp.nat_list_cmp_total,
-    List.{get_or-drop, get_or-take, length-drop, length-take-le, Elements.Contains-get_or},
+    Cmp.{nat_cmp_total, nat_list_cmp_total, on_total, then_total},
+    List.{get_or-drop, get_or-take, length-drop, length-take-le, Elements.Contains-get_or, Sorted.{ranks_by, sorted_far}},
     Map.Text.is_eq-slice_cmp,
     Slice.Eq.bytes_eq-Decides,
   },
@@ -15,15 +15,28 @@ use Rattle.std.{
     List.{AllWithin, Contains, HoldsAt, slice_get},
     Option.option_copied,
     List.Sorted.{IsPartitionedBy, IsPartitionPoint},
-    Ordering.{is_eq, is_lt, nat_cmp, ordering_reverse},
+    Cmp.IsTotalOrder,
+    Ordering.{is_eq, is_lt, nat_cmp, ordering_reverse, ordering_then},
     Str.bytes_eq,
     declared.cmp.Ordering.{Ordering, TheVariants.{Equal, Greater, Less}},
   },
 }
 use Rattle.folder_drop.specs.{
   declared.maildir_names.PlacedFile.PlacedFile,
-  SeenFiles.{AreInOrder, NoneHasBase, HaveBase, base_of_file},
+  Places.{AreInOrder, base_of_file, name_of_file, place_cmp, rank},
+  SeenFiles.{NoneHasBase, HaveBase},
 }
+
+-- ---- the order of files
+
+pub place_total : IsTotalOrder place_cmp
+place_total = then_total (on_total base_of_file nat_list_cmp_total)
+    (then_total (on_total (λ (file : PlacedFile). rank file.folder) nat_cmp_total) (on_total name_of_file nat_list_cmp_total))
+
+then_less : (o p : Ordering) → o ≡ Less → ordering_then o p ≡ Less
+then_less Less p e = refl
+then_less Equal p e = absurd (false≢true (ap is_lt e))
+then_less Greater p e = absurd (false≢true (ap is_lt e))
 
 -- the base comes before this one
 abbrev pub is_before : List ℕ → PlacedFile → Bool
@@ -65,10 +78,20 @@ not_before_itself x e =
     let back : slice_cmp nat_cmp x x ≡ Greater = reversed x x Less less in
     false≢true (sym (ap is_lt back) ∙ e)
 
+-- the bases of files in order are
+bases_in_order : (files : List PlacedFile) → AreInOrder files → (i j : ℕ) (d : PlacedFile) → i < j → j < length files
+    → slice_cmp nat_cmp (base_of_file (get_or files j d)) (base_of_file (get_or files i d)) ≢ Less
+bases_in_order files ordered i j d lt within less =
+    let x = get_or files j d in let y = get_or files i d in
+    let far = sorted_far (λ a b. is_lt (place_cmp a b)) (ranks_by place_total (λ (f : PlacedFile). f)) files ordered i j d
+    (omega (arith, lt)) within in
+    false≢true (sym far ∙ ap is_lt (then_less (slice_cmp nat_cmp (base_of_file x) (base_of_file y)) _ less))
+
 pub before_parted : (name : List ℕ) (files : List PlacedFile) → AreInOrder files → IsPartitionedBy (is_before name) files
 before_parted name files ordered = λ i j d le within is. ⊎_elim
     (λ (lt : i < j). let x = base_of_file (get_or files i d) in let y = base_of_file (get_or files j d) in
-    ap is_lt (less_at x y name (ordered i j d lt within) (less_from_is_lt (slice_cmp nat_cmp y name) is) (slice_cmp nat_cmp x name) refl))
+    ap is_lt (less_at x y name (bases_in_order files ordered i j d lt within) (less_from_is_lt (slice_cmp nat_cmp y name) is)
+    (slice_cmp nat_cmp x name) refl))
     (λ (ge : j ≤ i). let same : j ≡ i = omega (arith, le, ge) in subst (λ (k : ℕ). is_before name (get_or files k d) ≡ true) same is)
     (cases_lt i j)
 
@@ -80,7 +103,7 @@ same_parted name files start ordered behind = λ i j d le within is. ⊎_elim
     let long : length (drop start files) ≡ length files - start = length-drop start files in
     let x = base_of_file (get_or (drop start files) i d) in let y = base_of_file (get_or (drop start files) j d) in
     let order : slice_cmp nat_cmp y x ≢ Less = rw (get_or-drop start files i d, get_or-drop start files j d)
-    (ordered (start + i) (start + j) d (omega (arith, lt)) (omega (arith, long, within))) in
+    (bases_in_order files ordered (start + i) (start + j) d (omega (arith, lt)) (omega (arith, long, within))) in
     let stays : is_lt (slice_cmp nat_cmp x name) ≡ false = rw (get_or-drop start files i d)
     (behind (start + i) d (omega arith) (omega (arith, long, within, lt))) in
     let same : y ≡ name = (bytes_eq-Decides y name).0 is in
@@ -93,11 +116,11 @@ same_parted name files start ordered behind = λ i j d le within is. ⊎_elim
 -- from the first that isn't before the base on, so many have it
 pub with_base_are : (name : List ℕ) (files : List PlacedFile) (start count : ℕ) → start ≤ length files
     → count ≤ length (drop start files)
-    → (AreInOrder files → IsPartitionPoint (λ file. is_before name file ≡ true) (λ file. is_before name file ≡ false) files start)
+    → AreInOrder files → IsPartitionPoint (λ file. is_before name file ≡ true) (λ file. is_before name file ≡ false) files start
     → AllWithin (λ file. base_of_file file ≡ name) (drop start files) 0 count
     → (count < length (drop start files) → HoldsAt (λ file. base_of_file file ≢ name) (drop start files) count)
     → HaveBase name files (take count (drop start files))
-with_base_are name files start count in_files in_rest first have stops =
+with_base_are name files start count in_files in_rest ordered first have stops =
     let long : length (drop start files) ≡ length files - start = length-drop start files in
     let taken : length (take count (drop start files)) ≡ count = length-take-le count (drop start files) in_rest in
     record {
@@ -109,9 +132,9 @@ with_base_are name files start count in_files in_rest first have stops =
             subst (Contains files) (sym (shown ∙ get_or-drop start files k d))
                 (Contains-get_or files (start + k) d (omega (arith, fits, in_rest, long))),
           );
-      each = λ ordered k d within same. ⊎_elim
+      each = λ k d within same. ⊎_elim
           (λ (lt : k < start). absurd (not_before_itself name (subst (λ (x : List ℕ). is_lt (slice_cmp nat_cmp x name) ≡ true)
-          same ((first ordered).0 k d (omega arith) lt))))
+          same (first.0 k d (omega arith) lt))))
           (λ (ge : start ≤ k).
           let at : get_or (drop start files) (k - start) d ≡ get_or files k d = get_or-drop start files (k - start) d
           ∙ ap (λ (n : ℕ). get_or files n d) (omega (arith, ge)) in
@@ -124,7 +147,7 @@ with_base_are name files start count in_files in_rest first have stops =
           let passes : has_base name (get_or (drop start files) (k - start) d) ≡ true =
           (bytes_eq-Decides _ name).1 (ap base_of_file at ∙ same) in
           let too : has_base name (get_or (drop start files) count d) ≡ true =
-          same_parted name files start ordered (first ordered).1 count (k - start) d ge_too in_time passes in
+          same_parted name files start ordered first.1 count (k - start) d ge_too in_time passes in
           absurd (stops (omega (arith, in_time, ge_too)) d ((bytes_eq-Decides _ name).0 too)))
           (cases_lt (k - start) count))
           (cases_lt k start);
@@ -141,5 +164,5 @@ pub first_none : (name : List ℕ) (files these : List PlacedFile) (first : Opti
     → option_copied first ≡ slice_get these 0 → IfNone first (NoneHasBase name files)
 first_none name files these (Some x) are e = tt
 first_none name files (y ∷ ys) None are e = cc
-first_none name files [] None are e = λ ordered k d within same.
-    let there = are.each ordered k d within same in absurd (omega (arith, there.1))
+first_none name files [] None are e = λ k d within same.
+    let there = are.each k d within same in absurd (omega (arith, there.1))

@@ -1,15 +1,18 @@
 -- Where a message's file is now.
 use Rattle.std.specs.{
-  Prelude.{◌≡◌, ◌<◌, ◌⊎◌, ℕ, IfSome, true, false, List, Option, None, Some, string_bytes},
+  Prelude.{◌≡◌, ◌<◌, ◌⊎◌, ℕ, IfSome, true, false, List, Option, None, Some, length, string_bytes},
+  List.HoldsAt,
 }
 use Rattle.mail_terms.specs.MaildirName.{base}
 use Rattle.pop3_server.specs.{Maildrop.max_size, Size.{capped, size_of}}
 use Rattle.folder_drop.specs.{
   declared.{
+    listed_file.ListedFile.ListedFile,
     mail_files.{FileNumber.FileNumber, FileWay.FileWay, Found.Found},
     maildir_names.{PlacedFile.PlacedFile, Stamp.Stamp},
     seen_files.SeenFiles.SeenFiles,
   },
+  RealMaildir.listed_name,
   SeenFiles.{NoneHasBase, those_seen},
 }
 
@@ -34,6 +37,12 @@ abbrev pub IsOpenNow : {File : Type 0} → (FileWay → Found → Type 0) → (F
     → File → Type 0
 IsOpenNow found opened name file = (now : FileWay × Found) × IsFoundNow found name now
     × (now.1.is_regular ≡ true) × opened now.0 now.1.number file
+
+-- the same of the file of a listed message
+abbrev pub IsOpenAt : {File : Type 0} → (FileWay → Found → Type 0) → (FileWay → FileNumber → File → Type 0)
+    → List ListedFile → ℕ → File → Type 0
+IsOpenAt found opened listing i file = (i < length listing)
+    × HoldsAt (λ listed. IsOpenNow found opened (base (listed_name listed)) file) listing i
 
 -- what such a file was read to has this size as a message
 abbrev pub IsSizeNow : {File : Type 0} → (File → Option (List ℕ)) → (FileWay → Found → Type 0)

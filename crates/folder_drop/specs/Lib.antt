@@ -5,6 +5,7 @@ pub mod Listing
 pub mod MaildirNames
 pub mod OpenFolder
 pub mod OpenText
+pub mod Places
 pub mod RealMaildir
 pub mod Removal
 pub mod SameOctets

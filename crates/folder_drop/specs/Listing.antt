@@ -1,23 +1,27 @@
 -- Files of messages with different ids: those of a listing, and those that were listed so far.
 use Rattle.std.specs.{
-  Prelude.{◌≡◌, ◌≤◌, ◌<◌, ◌-◌, ℕ, Bool, true, false, List, Option, Some, None, Vec, All, AllPairs, bytes_eq, get_or},
+  Prelude.{◌≡◌, ◌≤◌, ◌<◌, ◌-◌, ℕ, Bool, true, false, List, Option, Some, None, Vec, All, bytes_eq, get_or},
   Prelude.{length, map},
   List.Contains,
-  Cmp.Lexicographic.slice_cmp,
-  Ordering.nat_cmp,
   HashSet.{HashSet, contains},
-  declared.cmp.Ordering.TheVariants.Less,
 }
 use Rattle.mail_terms.specs.{Distinct.AreDistinct, MaildirName.base}
-use Rattle.pop3_server.specs.Maildrop.{max_count, max_size}
+use Rattle.pop3_server.specs.Maildrop.{ListedMessage, max_count, max_size}
 use Rattle.folder_drop.specs.{
   declared.{folders_look.FoldersLook.FoldersLook, listed_file.ListedFile.ListedFile},
   MaildirNames.{digest_length, IsIdKey, id_of},
-  RealMaildir.{id_of_name, listed_names},
+  RealMaildir.{AreAscending, IsBefore, id_of_name, listed_names},
 }
 
--- they have different ids, and keep the limits
+abbrev pub size_of_entry : ListedMessage → ℕ
+size_of_entry entry = entry.size
+
+abbrev pub size_of_file : ListedFile → ℕ
+size_of_file file = file.size
+
+-- they have different ids, are in the order of their bases, and keep the limits
 pub record AreMessages (files : List ListedFile) : Type 0 where
+  pub ascending : AreAscending (listed_names files)
   pub distinct : AreDistinct (map id_of_name (listed_names files))
   pub count : length files ≤ max_count
   pub sizes : All (λ (file : ListedFile). file.size ≤ max_size) files
@@ -31,10 +35,6 @@ pub record FileListing : Type 0 where
 abbrev pub same_key : {Z : Type 0} → Vec ℕ Z → Vec ℕ Z → Bool
 same_key a b = bytes_eq a.items b.items
 
--- one base comes before another in the order of their bytes
-abbrev pub IsBefore : List ℕ → List ℕ → Type 0
-IsBefore a b = slice_cmp nat_cmp a b ≡ Less
-
 abbrev pub bases_of : List ListedFile → List (List ℕ)
 bases_of files = map base (listed_names files)
 
@@ -43,10 +43,9 @@ abbrev pub AreSeen : {Z S : Type 0} → HashSet (Vec ℕ Z) S → List (List ℕ
 AreSeen {Z} {S} seen ids = (key : Vec ℕ Z) → Contains ids key.items → length key.items ≡ digest_length
     → contains same_key seen key ≡ true
 
--- the files of messages are in the order of their bases, and the set has their ids that are as long as a digest
+-- the files are those of messages, and the set has their ids that are as long as a digest
 pub record AreListed {Z S : Type 0} (seen : HashSet (Vec ℕ Z) S) (files : List ListedFile) : Type 0 where
   pub messages : AreMessages files
-  pub ascending : AllPairs IsBefore (bases_of files)
   pub keys : AreSeen seen (map id_of_name (listed_names files))
 
 -- the base comes after that of the last of these files

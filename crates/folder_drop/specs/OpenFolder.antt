@@ -1,10 +1,17 @@
 -- The paths that lead to an open folder and its files, whatever is put in the folder's place.
-use Rattle.std.specs.Prelude.{◌≡◌, ◌++◌, ◌∷◌, ℕ, List, codes, string_bytes}
-use Rattle.folder_drop.specs.declared.{mail_files.FileWay.FileWay, maildir_names.Folder.Folder}
+use Rattle.std.specs.Prelude.{◌≡◌, ◌++◌, ℕ, List, codes, string_bytes}
+use Rattle.folder_drop.specs.{
+  declared.{mail_files.FileWay.FileWay, maildir_names.Folder.Folder},
+  MaildirNames.folder_name,
+}
 
 -- a name in a folder
 abbrev pub within : List ℕ → List ℕ → List ℕ
 within folder name = folder ++ (codes "/" ++ name)
+
+-- this folder of the Maildir, at its path there
+abbrev pub IsMaildirFolder : List ℕ → Folder → Folder → List ℕ → Type 0
+IsMaildirFolder maildir which folder path = (folder ≡ which) × (path ≡ within maildir (folder_name which))
 
 -- the path of the open folder of this descriptor
 abbrev pub way_to : List ℕ → List ℕ

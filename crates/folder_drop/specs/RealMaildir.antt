@@ -1,5 +1,10 @@
 -- A Maildir in a real folder: what is known of it, whatever the folder does.
-use Rattle.std.specs.Prelude.{◌≡◌, ℕ, List, [], map, string_bytes, Result, Ok, Err, Vec}
+use Rattle.std.specs.{
+  Prelude.{◌≡◌, ℕ, List, [], AllPairs, map, string_bytes, Result, Ok, Err, Vec},
+  Cmp.Lexicographic.slice_cmp,
+  Ordering.nat_cmp,
+  declared.cmp.Ordering.TheVariants.Less,
+}
 use Rattle.folder_drop.specs.{declared.listed_file.ListedFile.ListedFile, MaildirNames.id_of}
 use Rattle.pop3_server.specs.{declared.maildrop.DropFault.DropFault, Maildrop.{ListedMessage, DropMail}}
 use Rattle.mail_terms.specs.MaildirName.{base}
@@ -31,7 +36,15 @@ id_of_name name = id_of (base name)
 abbrev pub HaveIds : List ListedMessage → List (List ℕ) → Type 0
 HaveIds entries names = map uid_of entries ≡ map id_of_name names
 
--- each place has the id of its file's name; after a fault each place has the file that it had
+-- one base comes before another in the order of their bytes
+abbrev pub IsBefore : List ℕ → List ℕ → Type 0
+IsBefore a b = slice_cmp nat_cmp a b ≡ Less
+
+-- the names are in the order of their bases
+abbrev pub AreAscending : List (List ℕ) → Type 0
+AreAscending names = AllPairs IsBefore (map base names)
+
+-- each place has the id of its file's name, in the order of bases; after a fault each place has the file that it had
 abbrev pub ListsNames : {Z : Type 0} → RealMaildir → Result (Vec ListedMessage Z) DropFault → RealMaildir → Type 0
-ListsNames old (Ok entries) new = HaveIds entries.items new.names
+ListsNames old (Ok entries) new = HaveIds entries.items new.names × AreAscending new.names
 ListsNames old (Err fault) new = new.names ≡ old.names

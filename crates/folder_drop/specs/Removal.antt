@@ -4,16 +4,27 @@ use Rattle.std.specs.{
   String.string_bytes,
   List.{All, Contains, HoldsAt},
 }
+use Rattle.mail_terms.specs.MaildirName.{base}
 use Rattle.folder_drop.specs.{
   declared.{
     listed_file.ListedFile.ListedFile,
     mail_files.{FileNumber.FileNumber, FileWay.FileWay, Found.Found},
     maildir_names.{PlacedFile.PlacedFile, Stamp.Stamp},
     removal.{Namesake.Namesake, TwoMessages.TwoMessages},
+    seen_files.SeenFiles.SeenFiles,
   },
   RealMaildir.listed_name,
   SameOctets.TellsSame,
+  SeenFiles.{HaveBase, those_seen},
 }
+
+-- these were seen before, or listed since
+abbrev pub WereSeen : (List PlacedFile → Type 0) → SeenFiles → List PlacedFile → Type 0
+WereSeen listed seen files = (files ≡ those_seen seen.files) ⊎ listed files
+
+-- these were seen since the removals of a session began, or listed since
+abbrev pub WereSeenSince : (List PlacedFile → Type 0) → SeenFiles → List PlacedFile → Type 0
+WereSeenSince listed seen files = ((seen.are_removed ≡ true) × (files ≡ those_seen seen.files)) ⊎ listed files
 
 -- the file is where the message was listed
 abbrev pub IsInPlace : Namesake → Type 0
@@ -115,3 +126,13 @@ pub record RemovesSeen {File : Type 0} (remaining : File → Option (List ℕ)) 
   pub gone : ((i : ℕ) × IsListedAt files listed.stamp i
       × HoldsAt (λ own. RemovesWith remaining opened removed own files told) files i)
       ⊎ (NoneIsListed files listed.stamp × TellsInstead files told)
+
+-- a listed message is removed, or isn't, with those of the files of a look that have its base
+pub record RemovesMessage {File : Type 0} (remaining : File → Option (List ℕ)) (found : FileWay → Found → Type 0)
+    (opened : FileWay → FileNumber → File → Type 0) (removed : FileWay → FileNumber → Type 0)
+    (were_seen : List PlacedFile → Type 0) (listed : ListedFile) (told : Option TwoMessages) : Type 0 where
+  pub from : List PlacedFile
+  pub were : were_seen from
+  pub these : List PlacedFile
+  pub have : HaveBase (base (listed_name listed)) from these
+  pub removes : RemovesSeen remaining found opened removed listed these told

@@ -4,7 +4,7 @@ ghost use Rattle.std.specs.Prelude.{◌≡◌, ◌≤◌, ◌<◌, ◌⊎◌, If
 ghost use Rattle.mail_terms.specs.MaildirName.{base as base_of};
 ghost use Rattle.folder_drop.specs.{
   Finding.{IsFoundNow, IsGone, IsLeftOut, IsOpenNow, IsSizeNow, TellsStamp},
-  SeenFiles.base_of_file,
+  Places.base_of_file,
 };
 
 use crate::listed_file::count_size;

@@ -70,7 +70,7 @@ impl ListedFile {
 
     /// Whether it comes before a file that was found.
     fn is_before(&self, found: &PlacedFile) -> bool {
-        (self.base(), self.folder, self.name.as_str()) < found.place()
+        (self.base().as_bytes(), self.folder, self.name.as_bytes()) < found.place()
     }
 }
 

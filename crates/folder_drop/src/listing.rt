@@ -1,10 +1,25 @@
 //! The listing of a Maildir: the files of the messages, which have different ids.
-ghost use Rattle.std.specs.Prelude.{◌≡◌, ◌≤◌, ◌<◌, [], IsTrue, IsFalse, IfOk, OnOk, length, map, vec_len};
+ghost use Rattle.std.specs.Prelude.{
+  ◌≡◌,
+  ◌≤◌,
+  ◌<◌,
+  ◌++◌,
+  ◌∷◌,
+  ◌↔◌,
+  [],
+  IsTrue,
+  IsFalse,
+  IfOk,
+  OnOk,
+  length,
+  map,
+  vec_len,
+};
 ghost use Rattle.folder_drop.specs.{
   declared.folders_look.FoldersLook.FoldersLook,
   FoldersLook.IsUnchanged,
-  Listing.{AreListed, FollowsLast, MayBeListed, IsUnseen},
-  RealMaildir.{listed_name, listed_names, uid_of, HaveIds},
+  Listing.{AreListed, FollowsLast, MayBeListed, IsUnseen, size_of_entry, size_of_file},
+  RealMaildir.{AreAscending, HaveIds, listed_name, listed_names, uid_of},
 };
 ghost use Rattle.mail_terms.specs.{Distinct.AreDistinct, MaildirName.base as base_of};
 ghost use Rattle.pop3_server.specs.Maildrop.{max_size};
@@ -68,6 +83,8 @@ impl DropListing {
         ensures within { IfOk result (λ entries. vec_len entries ≤ MAX_COUNT) }
         ensures distinct { IfOk result (λ entries. AreDistinct (map uid_of entries.items)) }
         ensures names { IfOk result (λ entries. HaveIds entries.items (listed_names self.now.files)) }
+        ensures sizes { IfOk result (λ entries. map size_of_entry entries.items ≡ map size_of_file self.now.files) }
+        ensures in_order { AreAscending (listed_names self.now.files) }
     {
         let mut entries = Vec::with_capacity(alloc, self.files.len())?;
         for file in self.files.as_slice() {
@@ -103,7 +120,8 @@ impl ListedFiles {
 
     /// Whether as many messages are listed as may be.
     pub fn is_full(&self) -> bool
-        ensures { IsFalse result → vec_len self.now.files < MAX_COUNT }
+        ensures room { IsFalse result → vec_len self.now.files < MAX_COUNT }
+        ensures full { IsTrue result → MAX_COUNT ≤ vec_len self.now.files }
     {
         self.files.len() >= MAX_COUNT
     }
@@ -120,7 +138,7 @@ impl ListedFiles {
 
     /// Whether an id isn't one of the long ones that are listed.
     fn is_unseen(&self, long_id: &Option<Vec<u8>>) -> bool
-        ensures { IsTrue result → IsUnseen self.now.long_ids long_id.now }
+        ensures { IsTrue result ↔ IsUnseen self.now.long_ids long_id.now }
     {
         match long_id {
             Some(id) => !self.long_ids.contains(id),
@@ -138,8 +156,9 @@ impl ListedFiles {
 
     /// Lists one more file.
     pub fn add(&mut self, long_id: Option<Vec<u8>>, file: ListedFile) -> Result<(), AllocError>
-        ensures { OnOk result (MayBeListed self.old.long_ids self.old.files.items long_id (base_of (listed_name file))
-            → vec_len self.old.files < MAX_COUNT → file.size ≤ max_size
+        ensures added { OnOk result (self.new.files.items ≡ self.old.files.items ++ file ∷ []) }
+        ensures listed { OnOk result (MayBeListed self.old.long_ids self.old.files.items long_id
+            (base_of (listed_name file)) → vec_len self.old.files < MAX_COUNT → file.size ≤ max_size
             → AreListed self.old.long_ids self.old.files.items → AreListed self.new.long_ids self.new.files.items) }
     {
         if let Some(id) = long_id {

@@ -76,6 +76,7 @@ pub trait MailFiles {
     ghost use Rattle.std.specs.Prelude.{◌≡◌, ℕ, List, IfOk, string_bytes};
     ghost use Rattle.folder_drop.specs.{
       declared.{mail_files.{FileNumber.FileNumber, FileWay.FileWay, Found.Found}, maildir_names.PlacedFile.PlacedFile},
+      Places.AreInOrder,
       Removal.MayGo,
     };
 
@@ -98,7 +99,8 @@ pub trait MailFiles {
 
     /// The files of both folders at one moment, in order.
     fn list(&self) -> io::Result<Vec<PlacedFile>>
-        ensures { IfOk result (λ files. told self.now files.items) };
+        ensures told { IfOk result (λ files. told self.now files.items) }
+        ensures in_order { IfOk result (λ files. AreInOrder files.items) };
 
     /// A name in a folder. The calls for it need no more memory.
     fn way(&self, folder: Folder, name: &str) -> io::Result<FileWay>

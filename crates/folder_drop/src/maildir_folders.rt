@@ -1,6 +1,14 @@
 //! The two folders of a Maildir whose files are messages.
-ghost use Rattle.std.specs.{Prelude.{◌≡◌, ◌++◌, ℕ, List, OnOk, map}, String.string_bytes};
-ghost use Rattle.folder_drop.specs.SeenFiles.{folder_and_name};
+ghost use Rattle.std.specs.{
+  List.Sorted.IsPermutation,
+  Prelude.{◌≡◌, ◌++◌, ℕ, List, IfOk, IfSome, OnOk, map, string_bytes},
+};
+ghost use Rattle.folder_drop.specs.{
+  declared.maildir_names.Folder.TheVariants.{Cur, New},
+  MaildirNames.folder_name,
+  OpenFolder.{IsMaildirFolder, within},
+  Places.{AreInOrder, folder_and_name, place_cmp, named_in},
+};
 
 use crate::folders_look::FoldersLook;
 use crate::mail_files::{FileNumber, FileWay, Found, MailFiles};
@@ -35,6 +43,10 @@ impl<'a, R: Files + AllocGlobal + Clone + Drop> Model for MaildirFolders<'a, R> 
     ghost Value = { List ℕ };
 
     ghost view = { λ f. string_bytes f.path };
+
+    ghost invariant = { λ f. IfSome f.open (λ both.
+        IsMaildirFolder (string_bytes f.path) New both.new_folder.folder (string_bytes both.new_folder.path)
+        × IsMaildirFolder (string_bytes f.path) Cur both.cur_folder.folder (string_bytes both.cur_folder.path)) };
 }
 
 /// Adds the files of these names in a folder.
@@ -44,12 +56,33 @@ fn add_files(
     names: Vec<String>,
 ) -> Result<(), AllocError>
     ensures { OnOk result (map folder_and_name files.new.items
-        ≡ map folder_and_name files.old.items ++ map (λ name. (folder, string_bytes name)) names.items) }
+        ≡ map folder_and_name files.old.items ++ named_in folder names.items) }
 {
     for name in names {
         files.push(PlacedFile::of(folder, name))?;
     }
     Ok(())
+}
+
+/// The files of these names in `new` and in `cur`, in order.
+fn files_of(
+    alloc: Global,
+    in_new: Vec<String>,
+    in_cur: Vec<String>,
+) -> Result<Vec<PlacedFile>, AllocError>
+    ensures all { IfOk result (λ files. IsPermutation
+        (named_in New in_new.items ++ named_in Cur in_cur.items) (map folder_and_name files.items)) }
+    ensures in_order { IfOk result (λ files. AreInOrder files.items) }
+{
+    let mut files = Vec::new(alloc);
+    add_files(&mut files, Folder::New, in_new)?;
+    add_files(&mut files, Folder::Cur, in_cur)?;
+    files.sort_unstable_by(
+        |a, b|
+            ensures { result ≡ place_cmp a.now b.now }
+        { a.cmp_place(b) },
+    );
+    Ok(files)
 }
 
 impl<'a, R: Files + Clock + AllocGlobal + Clone + Drop> MaildirFolders<'a, R> {
@@ -72,14 +105,19 @@ impl<'a, R: Files + Clock + AllocGlobal + Clone + Drop> MaildirFolders<'a, R> {
     }
 
     /// Opens a folder.
-    fn open_folder(&self, folder: Folder) -> io::Result<OpenFolder<'a, R>> {
+    fn open_folder(&self, folder: Folder) -> io::Result<OpenFolder<'a, R>>
+        ensures { IfOk result (λ found. IsMaildirFolder self.now folder found.folder (string_bytes found.path)) }
+    {
         let (path, name) = (self.path.as_str(), folder.name());
         let path = format!(in self.system.alloc(); "{path}/{name}")?;
         OpenFolder::open(self.system, folder, path)
     }
 
     /// A folder that was opened. NotFound before the first look.
-    fn folder(&self, folder: Folder) -> io::Result<&OpenFolder<'a, R>> {
+    fn folder(&self, folder: Folder) -> io::Result<&OpenFolder<'a, R>>
+        ensures { IfOk result (λ found.
+            IsMaildirFolder self.now folder found.now.folder (string_bytes found.now.path)) }
+    {
         match &self.open {
             None => Err(io::Error::from(ErrorKind::NotFound)),
             Some(open) => match folder {
@@ -159,17 +197,17 @@ impl<'a, R: Files + Clock + AllocGlobal + Clone + Drop> MailFiles for MaildirFol
     }
 
     fn list(&self) -> io::Result<Vec<PlacedFile>> {
-        let names = self.names()?;
-        let mut files = Vec::new(self.system.alloc());
-        add_files(&mut files, Folder::New, names.0)?;
-        add_files(&mut files, Folder::Cur, names.1)?;
-        files.sort_unstable_by(|a, b| a.place().cmp(&b.place()));
+        let (in_new, in_cur) = self.names()?;
+        let files = files_of(self.system.alloc(), in_new, in_cur)?;
         Ok(files)
     }
 
-    fn way(&self, folder: Folder, name: &str) -> io::Result<FileWay> {
-        let found = self.folder(folder)?.file(name)?;
-        Ok(FileWay { folder, ..found })
+    fn way(&self, folder: Folder, name: &str) -> io::Result<FileWay>
+        ensures place { IfOk result (λ way. (way.folder ≡ folder) × (string_bytes way.name ≡ name.now)) }
+        ensures path { IfOk result (λ way. string_bytes way.path
+            ≡ within (within self.now (folder_name folder)) name.now) }
+    {
+        self.folder(folder)?.file(name)
     }
 
     fn look_up(&self, file: &FileWay) -> io::Result<Found> {

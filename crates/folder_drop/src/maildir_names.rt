@@ -1,9 +1,8 @@
 //! The folders and files of a Maildir, and the unique-id for a file's name.
 ghost use Rattle.std.specs.{
   Duration.as_nanos,
-  Prelude.{◌≡◌, ◌/◌, ◌%◌, true, length, IsTrue, IfOk},
+  Prelude.{◌≡◌, ◌/◌, ◌%◌, true, length, IsTrue, IfOk, string_bytes},
   List.list_all,
-  String.string_bytes,
 };
 ghost use Rattle.mail_terms.specs.{MaildirName.base as base_of, UniqueId.{is_legal_id, is_id_byte}};
 ghost use Rattle.folder_drop.specs.MaildirNames.{folder_name, id_of, IsIdKey};
@@ -14,6 +13,7 @@ use mail_terms::base;
 use pop3_wire::is_legal_id;
 use sha2::{Digest, Sha256};
 use std::alloc::{AllocError, Global};
+use std::cmp::Ordering;
 use std::time::Duration;
 
 /// How many characters a digest has in hexadecimal.
@@ -70,9 +70,12 @@ pub struct PlacedFile {
     pub name: String,
     /// How long its base is, kept for the many comparisons of a sort.
     base_length: usize,
+    ghost measured: { base_length ≡ length (base_of (string_bytes name)) },
 }
 
 impl PlacedFile {
+    ghost use Rattle.folder_drop.specs.Places.{base_of_file, name_of_file, place_cmp};
+
     /// The file of this name.
     pub fn of(folder: Folder, name: String) -> PlacedFile
         ensures { (result.folder ≡ folder) × (result.name ≡ name) }
@@ -87,16 +90,26 @@ impl PlacedFile {
 
     /// The base of its name.
     pub fn base(&self) -> &str
-        ensures { result.now ≡ base_of (string_bytes self.now.name) }
+        ensures { result.now ≡ base_of_file self.now }
     {
         base(self.name.as_str())
     }
 
     /// What files are ordered by: the bytes of their base, then `cur` before `new`, then their whole name.
-    pub fn place(&self) -> (&str, Folder, &str) {
-        let name = self.name.as_str();
-        let base = name.get(..self.base_length).unwrap_or(name);
-        (base, self.folder, name)
+    pub fn place(&self) -> (&[u8], Folder, &[u8])
+        ensures base { result.0.now ≡ base_of_file self.now }
+        ensures folder { result.1 ≡ self.now.folder }
+        ensures name { result.2.now ≡ name_of_file self.now }
+    {
+        let name = self.name.as_bytes();
+        (&name[..self.base_length], self.folder, name)
+    }
+
+    /// How its place is ordered beside that of another.
+    pub fn cmp_place(&self, other: &PlacedFile) -> Ordering
+        ensures { result ≡ place_cmp self.now other.now }
+    {
+        self.place().cmp(&other.place())
     }
 }
 

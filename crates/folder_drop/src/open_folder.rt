@@ -92,7 +92,9 @@ impl<'a, R: Files + AllocGlobal> OpenFolder<'a, R> {
         system: &'a System<'a, R>,
         folder: Folder,
         path: String,
-    ) -> io::Result<OpenFolder<'a, R>> {
+    ) -> io::Result<OpenFolder<'a, R>>
+        ensures { IfOk result (λ found. (found.folder ≡ folder) × (found.path ≡ path)) }
+    {
         let descriptor = open_descriptor(system, path.as_str())?;
         let number_text = format!(in system.alloc(); "{}", descriptor.number)?;
         let way = way_to(system.alloc(), number_text.as_str())?;

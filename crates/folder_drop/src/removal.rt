@@ -1,15 +1,12 @@
 //! Which files are removed with a message, and removing them.
 ghost use Rattle.std.specs.{
-  Prelude.{◌≡◌, ◌≢◌, ◌++◌, ◌<◌, List, true, false, length, string_bytes, IfOk, IfSome, IfNone, OnOk},
+  Prelude.{◌≡◌, ◌≢◌, ◌++◌, ◌<◌, true, false, length, string_bytes, IfOk, IfSome, IfNone, OnOk},
   List.{All, HoldsAt},
 };
-ghost use Rattle.mail_terms.specs.MaildirName.{base as base_of};
 ghost use Rattle.folder_drop.specs.{
-  declared.{maildir_names.PlacedFile.PlacedFile, removal.Namesake.Namesake},
+  declared.removal.Namesake.Namesake,
   Removal.{AreNamesakes, HasStamp, IsInPlace, IsListedAt, IsNamesake, IsOther, MayGo, NoneIsInPlace, NoneIsListed},
-  Removal.{RemovesSeen, RemovesWith, TellsInstead, WasRead, if_any},
-  RealMaildir.listed_name,
-  SeenFiles.{HaveBase, WereSeen},
+  Removal.{RemovesMessage, RemovesSeen, RemovesWith, TellsInstead, WasRead, WereSeen, if_any},
 };
 
 use crate::finding::{MOST_TRIES, busy};
@@ -311,10 +308,8 @@ pub fn remove<D: MailFiles>(
     seen: &mut SeenFiles,
     listed: &ListedFile,
 ) -> io::Result<Option<TwoMessages>>
-    ensures { IfOk result (λ told. (from : List PlacedFile) × (these : List PlacedFile)
-        × WereSeen (D.told files.now) seen.old from × HaveBase (base_of (listed_name listed.now)) from these
-        × RemovesSeen D.File.remaining (D.found files.now) (D.opened files.now) (D.removed files.now) listed.now these
-        told) }
+    ensures { IfOk result (RemovesMessage D.File.remaining (D.found files.now) (D.opened files.now)
+        (D.removed files.now) (WereSeen (D.told files.now) seen.old) listed.now) }
 {
     for _ in 0..MOST_TRIES {
         match remove_seen(files, seen.with_base(listed.base()), listed) {

@@ -3,7 +3,10 @@ ghost use Rattle.std.specs.{
   List.{AllWithin, HoldsAt},
   Prelude.{◌≡◌, ◌≢◌, ◌≤◌, ◌<◌, ◌&&◌, if◌then◌else◌, None, Some, false, length, not, true, is_some, IfNone, IfSome},
 };
-ghost use Rattle.folder_drop.specs.SeenFiles.{base_of_file, those_seen, NoneHasBase, HaveBase};
+ghost use Rattle.folder_drop.specs.{
+  Places.{AreInOrder, base_of_file},
+  SeenFiles.{HaveBase, NoneHasBase, those_seen},
+};
 
 use crate::maildir_names::PlacedFile;
 
@@ -23,6 +26,7 @@ fn count_with(files: &[PlacedFile], base: &str) -> usize
 
 /// Those of files in order that have this base.
 fn with_base_among<'a>(files: &'a [PlacedFile], base: &str) -> &'a [PlacedFile]
+    requires { AreInOrder files.now }
     ensures { HaveBase base.now files.now result.now }
 {
     let start = files.partition_point(|file| file.base() < base);
@@ -36,6 +40,7 @@ fn with_base_among<'a>(files: &'a [PlacedFile], base: &str) -> &'a [PlacedFile]
 pub struct SeenFiles {
     /// In their order. None before the first look.
     files: Option<Vec<PlacedFile>>,
+    ghost in_order: { AreInOrder (those_seen files) },
     /// Whether the removals of a session have begun.
     are_removed: bool,
 }
@@ -43,7 +48,7 @@ pub struct SeenFiles {
 impl SeenFiles {
     /// No files: none was looked for yet.
     pub fn none() -> SeenFiles
-        ensures { result ≡ record { files = None; are_removed = false } }
+        ensures { (result.files ≡ None) × (result.are_removed ≡ false) }
     {
         SeenFiles {
             files: None,
@@ -51,9 +56,11 @@ impl SeenFiles {
         }
     }
 
-    /// Replaces what was seen before; the files have to be in order.
+    /// Replaces what was seen before.
     pub fn renew(&mut self, files: Vec<PlacedFile>)
-        ensures { self.new ≡ record self.old { files = Some files } }
+        requires { AreInOrder files.items }
+        ensures files { self.new.files ≡ Some files }
+        ensures removed { self.new.are_removed ≡ self.old.are_removed }
     {
         self.files = Some(files);
     }
@@ -87,8 +94,8 @@ impl SeenFiles {
     /// they only begin now.
     pub fn begin_removals(&mut self) -> bool
         ensures first { result ≡ not self.old.are_removed }
-        ensures begun { self.new ≡ (if self.old.are_removed then self.old
-            else record { files = None; are_removed = true }) }
+        ensures begun { self.new.are_removed ≡ true }
+        ensures files { self.new.files ≡ (if self.old.are_removed then self.old.files else None) }
     {
         if self.are_removed {
             return false;

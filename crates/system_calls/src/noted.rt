@@ -60,7 +60,8 @@ impl<'a, S> Noted<'a, S> {
     /// An error about this, with its path.
     pub fn denied(&self, error: io::Error) -> Denial
         ensures error { result.error ≡ error }
-        ensures path { IfSome result.path (λ own. IsSomeAnd self.now.path (λ path. string_bytes own ≡ string_bytes path)) }
+        ensures path { IfSome result.path (λ own.
+            IsSomeAnd self.now.path (λ path. string_bytes own ≡ string_bytes path)) }
     {
         match &self.path {
             Some(path) => Denial::of(self.alloc, path.as_str(), error),

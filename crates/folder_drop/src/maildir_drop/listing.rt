@@ -1,7 +1,7 @@
 //! How a Maildir is listed: the files that are found, and the messages that they are.
 ghost use Rattle.std.specs.Prelude.{◌≡◌, ◌≤◌, map, vec_len, IfOk, OnErr};
 ghost use Rattle.mail_terms.specs.Distinct.{AreDistinct};
-ghost use Rattle.folder_drop.specs.RealMaildir.{uid_of, HaveIds};
+ghost use Rattle.folder_drop.specs.RealMaildir.{AreAscending, HaveIds, uid_of};
 
 use crate::finding;
 use crate::folders_look::FoldersLook;
@@ -64,7 +64,7 @@ impl<'a, R: Files + Clock + RandomSource + AllocGlobal + Clone + Drop> MaildirDr
     pub(crate) fn list_messages(&mut self, last_seen: &mut SeenFiles) -> io::Result<Vec<Entry>>
         ensures within { IfOk result (λ entries. vec_len entries ≤ MAX_COUNT) }
         ensures distinct { IfOk result (λ entries. AreDistinct (map uid_of entries.items)) }
-        ensures names { IfOk result (λ entries. HaveIds entries.items self.new.names) }
+        ensures names { IfOk result (λ entries. HaveIds entries.items self.new.names × AreAscending self.new.names) }
         ensures others { self.new ≡ record self.old { names = self.new.names } }
         ensures err { OnErr result (self.new ≡ self.old) }
     {

@@ -1,11 +1,22 @@
 //! The texts of a Maildir's messages: their files read, whole or in parts, and removed.
-ghost use Rattle.std.specs.{IoError.error_kind, Prelude.{◌≡◌, ◌≤◌, ◌<◌, ◌+◌, ◌^◌, length, IfOk, IfSome, Some}};
-ghost use Rattle.folder_drop.specs.OpenText.{ReadsOn};
+ghost use Rattle.std.specs.{
+  IoError.error_kind,
+  List.HoldsAt,
+  Prelude.{◌≡◌, ◌≤◌, ◌<◌, ◌+◌, ◌^◌, length, IfOk, IfSome, OnOk, Some},
+};
+ghost use Rattle.folder_drop.specs.{
+  Finding.IsOpenAt,
+  OpenText.ReadsOn,
+  Removal.{RemovesMessage, WereSeenSince},
+  SeenFiles.those_seen,
+};
 
 use crate::finding::open;
+use crate::listed_file::ListedFile;
 use crate::mail_files::MailFiles;
 use crate::maildir_drop::{MaildirDrop, OpenText};
-use crate::removal::remove;
+use crate::removal::{TwoMessages, remove};
+use crate::seen_files::SeenFiles;
 use std::io::{self, ErrorKind, Read, Seek, SeekFrom};
 use std::random::RandomSource;
 use std::rt::Files;
@@ -55,36 +66,84 @@ fn missing() -> io::Error
     io::Error::from(ErrorKind::NotFound)
 }
 
-impl<'a, R: Files + Clock + RandomSource + AllocGlobal + Clone + Drop> MaildirDrop<'a, R> {
-    /// Opens the file at a place of the last listing.
-    fn open_file(&mut self, i: usize) -> io::Result<Noted<'a, R::File>>
-        ensures same { self.new ≡ self.old }
-    {
-        let Some(listed) = self.listing.files().get(i) else {
-            return Err(missing());
-        };
-        let name = listed.name.as_str();
-        match open(&self.folders, &mut self.last_seen, listed.folder, name)? {
-            Some(file) => Ok(file),
-            None => Err(missing()),
-        }
+/// Opens the file at a place of a listing, and tells its length there.
+fn open_at<D: MailFiles>(
+    files: &D,
+    seen: &mut SeenFiles,
+    listing: &[ListedFile],
+    i: usize,
+) -> io::Result<(D::File, u64)>
+    ensures { IfOk result (λ opened. IsOpenAt (D.found files.now) (D.opened files.now) listing.now i opened.0) }
+{
+    let Some(listed) = listing.get(i) else {
+        return Err(missing());
+    };
+    match open(files, seen, listed.folder, listed.name.as_str())? {
+        Some(file) => Ok((file, listed.stamp.length)),
+        None => Err(missing()),
     }
+}
 
-    /// The bytes of the file at a place of the last listing. The buffer has room for one octet
-    /// more than the listing counted, so that the read that finds the end fits too; it grows only
-    /// if the file has grown.
+/// The octets of the file at a place of a listing. The buffer has room for one octet more than the listing counted, so
+/// that the read that finds the end fits too; it grows only if the file has grown.
+fn read_at<D: MailFiles>(
+    files: &D,
+    seen: &mut SeenFiles,
+    listing: &[ListedFile],
+    i: usize,
+) -> io::Result<Vec<u8>>
+    ensures { IfOk result (λ text. (file : D.File)
+        × IsOpenAt (D.found files.now) (D.opened files.now) listing.now i file
+        × IfSome (D.File.remaining file) (λ octets. text.items ≡ octets)) }
+{
+    let (mut file, length) = open_at(files, seen, listing, i)?;
+    let room = (length as usize).saturating_add(1);
+    let mut text = Vec::with_capacity(files.alloc(), room)?;
+    file.read_to_end(&mut text)?;
+    Ok(text)
+}
+
+/// Looks at the folders once the removals of a session begin: that is enough for all of them. If it fails, all are
+/// refused.
+fn look_for_removals<D: MailFiles>(files: &D, seen: &mut SeenFiles) -> io::Result<()>
+    ensures { OnOk result (WereSeenSince (D.told files.now) seen.old (those_seen seen.new.files)) }
+{
+    if seen.begin_removals() {
+        seen.renew(files.list()?);
+        return Ok(());
+    }
+    if !seen.tells_all() {
+        return Err(missing());
+    }
+    Ok(())
+}
+
+/// Removes the file at a place of a listing, and each other one with its base, unless one of them is another message.
+/// One that is gone already counts as removed.
+fn remove_at<D: MailFiles>(
+    files: &D,
+    seen: &mut SeenFiles,
+    listing: &[ListedFile],
+    i: usize,
+) -> io::Result<Option<TwoMessages>>
+    ensures { IfOk result (λ told. (i < length listing.now) × HoldsAt (λ listed. RemovesMessage D.File.remaining
+        (D.found files.now) (D.opened files.now) (D.removed files.now) (WereSeenSince (D.told files.now) seen.old)
+        listed told) listing.now i) }
+{
+    let Some(listed) = listing.get(i) else {
+        return Err(missing());
+    };
+    look_for_removals(files, seen)?;
+    let told = remove(files, seen, listed)?;
+    Ok(told)
+}
+
+impl<'a, R: Files + Clock + RandomSource + AllocGlobal + Clone + Drop> MaildirDrop<'a, R> {
+    /// The octets of the file at a place of the last listing.
     pub(crate) fn read_file(&mut self, i: usize) -> io::Result<Vec<u8>>
         ensures same { self.new ≡ self.old }
     {
-        let mut file = self.open_file(i)?;
-        let length = match self.listing.files().get(i) {
-            Some(listed) => listed.stamp.length,
-            None => 0,
-        };
-        let room = (length as usize).saturating_add(1);
-        let mut text = Vec::with_capacity(self.system.alloc(), room)?;
-        file.read_to_end(&mut text)?;
-        Ok(text)
+        read_at(&self.folders, &mut self.last_seen, self.listing.files(), i)
     }
 
     /// Opens the file at a place of the last listing, to be read from the octet `start` on.
@@ -92,7 +151,7 @@ impl<'a, R: Files + Clock + RandomSource + AllocGlobal + Clone + Drop> MaildirDr
         ensures same { self.new ≡ self.old }
         ensures there { IfOk result (λ text. (text.place ≡ i) × (text.read ≡ start)) }
     {
-        let mut file = self.open_file(i)?;
+        let (mut file, _) = open_at(&self.folders, &mut self.last_seen, self.listing.files(), i)?;
         if start > 0 {
             file.seek(SeekFrom::Start(start as u64))?;
         }
@@ -132,21 +191,11 @@ impl<'a, R: Files + Clock + RandomSource + AllocGlobal + Clone + Drop> MaildirDr
     }
 
     /// Removes the file at a place of the last listing, and each other one with its base, unless one of them is
-    /// another message. One that is gone already counts as removed. The first removal of a session lists the
-    /// folders for all; if that fails, all are refused.
+    /// another message.
     pub(crate) fn remove_file(&mut self, i: usize) -> io::Result<()>
         ensures same { self.new ≡ self.old }
     {
-        let Some(listed) = self.listing.files().get(i) else {
-            return Err(missing());
-        };
-        if self.last_seen.begin_removals() {
-            self.last_seen.renew(self.folders.list()?);
-        }
-        if !self.last_seen.tells_all() {
-            return Err(missing());
-        }
-        match remove(&self.folders, &mut self.last_seen, listed)? {
+        match remove_at(&self.folders, &mut self.last_seen, self.listing.files(), i)? {
             None => Ok(()),
             Some(two) => {
                 self.not_removed.push(two)?;

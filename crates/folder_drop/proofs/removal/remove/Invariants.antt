@@ -1,4 +1,4 @@
-use Rattle.folder_drop.specs.SeenFiles.{WereSeen, those_seen}
+use Rattle.folder_drop.specs.{Removal.WereSeen, SeenFiles.those_seen}
 use Rattle.folder_drop.proofs.removal.remove.Given as goal
 
 abbrev pub invariant-loop : goal.invariant-loop

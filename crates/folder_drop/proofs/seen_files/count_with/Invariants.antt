@@ -1,5 +1,5 @@
 use Rattle.std.{proofs.Common.◌≡◌, specs.List.AllWithin}
-use Rattle.folder_drop.specs.SeenFiles.{base_of_file}
+use Rattle.folder_drop.specs.Places.{base_of_file}
 use Rattle.folder_drop.proofs.seen_files.count_with.Given as goal
 
 abbrev pub invariant-loop-i : goal.invariant-loop-i

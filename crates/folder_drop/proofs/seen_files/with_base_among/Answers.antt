@@ -1,5 +1,5 @@
 use Rattle.std.proofs.{
-  Common.{◌≡◌, ◌-◌, ℕ, List, arith, drop, length, rules, subst, sym, take},
+  Common.{◌≡◌, ◌-◌, List, arith, drop, length, rules, subst, sym, take},
   lemmas.List.{length-drop, take_all, Sorted.IsPartitionPoint-from_clause},
 }
 use Rattle.folder_drop.specs.{declared.maildir_names.PlacedFile.PlacedFile, SeenFiles.HaveBase}
@@ -16,7 +16,7 @@ returns c =
     let are : HaveBase c.args.base.now files (take count (drop start files)) =
     with_base_are c.args.base.now files start count c.partition_point-start.ensures.bound
     (rw whole at c.count_with-count.ensures.within)
-    (λ ordered. IsPartitionPoint-from_clause (is_before c.args.base.now) _ _ c.partition_point-start.ensures.partitioned
-    (before_parted c.args.base.now _ ordered) (λ a r q k. search rules))
+    c.requires (IsPartitionPoint-from_clause (is_before c.args.base.now) _ _ c.partition_point-start.ensures.partitioned
+    (before_parted c.args.base.now _ c.requires) (λ a r q k. search rules))
     (rw whole at c.count_with-count.ensures.have) (rw whole at c.count_with-count.ensures.stops) in
     subst (λ (rest : List PlacedFile). HaveBase c.args.base.now files (take count rest)) (sym whole) are

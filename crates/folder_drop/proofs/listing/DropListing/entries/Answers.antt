@@ -2,14 +2,18 @@ use Rattle.std.proofs.{Common.{◌≡◌, ◌≤◌, ◌<◌, ◌∙◌, ℕ, Li
 use Rattle.mail_terms.specs.Distinct.{AreDistinct}
 use Rattle.pop3_server.specs.Maildrop.{max_count}
 use Rattle.folder_drop.{
-  specs.{declared.listed_file.ListedFile.ListedFile, Listing.FileListing, MaildirNames.id_of},
-  specs.RealMaildir.{HaveIds, id_of_name, listed_name, listed_names, uid_of},
-  proofs.MaildirLemmas.entry_more,
+  specs.{declared.listed_file.ListedFile.ListedFile, Listing.{FileListing, size_of_entry, size_of_file}, MaildirNames.id_of},
+  specs.RealMaildir.{AreAscending, HaveIds, id_of_name, listed_name, listed_names, uid_of},
+  proofs.MaildirLemmas.{entry_more, size_more},
 }
 use Rattle.folder_drop.proofs.listing.DropListing.entries.Goals as goal
 
 pub loop-file-init : goal.loop-file-init
-loop-file-init c = (c.in_ok-entries.ensures.len, ap (map uid_of) c.in_ok-entries.ensures.items)
+loop-file-init c = (
+  c.in_ok-entries.ensures.len,
+  ap (map uid_of) c.in_ok-entries.ensures.items,
+  ap (map size_of_entry) c.in_ok-entries.ensures.items,
+)
 
 pub loop-file-preserved : goal.loop-file-preserved
 loop-file-preserved c =
@@ -27,6 +31,8 @@ loop-file-preserved c =
       omega (arith, more, before),
       rw c.in_ok-push.ensures.items (entry_more c.loop-file.entries.items c.args.self.now.files i c.new.result file fits
           is same c.loop-file.invariant.1),
+      rw c.in_ok-push.ensures.items (size_more c.loop-file.entries.items c.args.self.now.files i c.new.result file fits
+          is (ap size_of_entry c.new.ensures) c.loop-file.invariant.2),
     )
 
 pub returns-clause-within : goal.returns-clause-within
@@ -45,6 +51,17 @@ returns-clause-names c =
     ∙ ap (λ (l : FileListing). l.files) c.self.view_is in
     let all : length c.args.self.now.files ≤ i = subst (λ (l : List ListedFile). length l ≤ i) files c.loop-file-test.false in
     c.loop-file.invariant.1 ∙ ap (λ (l : List ListedFile). map id_of_name (listed_names l)) (take_all i c.args.self.now.files all)
+
+pub returns-clause-sizes : goal.returns-clause-sizes
+returns-clause-sizes c =
+    let i = c.loop-file.file-index in
+    let files : c.as_slice-file-items.result.now ≡ c.args.self.now.files = c.as_slice-file-items.ensures.value
+    ∙ ap (λ (l : FileListing). l.files) c.self.view_is in
+    let all : length c.args.self.now.files ≤ i = subst (λ (l : List ListedFile). length l ≤ i) files c.loop-file-test.false in
+    c.loop-file.invariant.2 ∙ ap (λ (l : List ListedFile). map size_of_file l) (take_all i c.args.self.now.files all)
+
+pub returns-clause-in_order : goal.returns-clause-in_order
+returns-clause-in_order c = subst (λ (l : FileListing). AreAscending (listed_names l.files)) c.self.view_is c.self.invariant.ascending
 
 pub returns-clause-distinct : goal.returns-clause-distinct
 returns-clause-distinct c =

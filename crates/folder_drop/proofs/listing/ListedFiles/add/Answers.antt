@@ -6,8 +6,8 @@ use Rattle.folder_drop.{
 }
 use Rattle.folder_drop.proofs.listing.ListedFiles.add.Goals as goal
 
-pub returns : goal.returns
-returns c = λ next few small listed.
+pub returns-clause-listed : goal.returns-clause-listed
+returns-clause-listed c = λ next few small listed.
     let old = c.args.self.now.long_ids in
     let files = c.args.self.now.files.items in
     let ids = map id_of_name (listed_names files) in

@@ -16,9 +16,9 @@ loop-file-preserved g c =
     let within = rw c.in-Some-size.is at c.in_ok-size.ensures.within in
     let sized = ap (λ (file : ListedFile). file.size) c.of.ensures in
     let small : c.of.result.size ≤ max_size = omega (arith, within, sized) in
-    c.in_ok-add.ensures (record {
+    c.in_ok-add.ensures.listed (record {
       behind = subst (λ (name : List ℕ). FollowsLast c.loop-file.listed.files.items name) named (c.if-not-admit.ensures.behind refl);
       is_key = subst (λ (name : List ℕ). IsIdKey c.in_ok-long_id.long_id (id_of name)) (c.as_bytes.ensures.value
           ∙ named) c.in_ok-long_id.ensures;
       unseen = c.if-not-admit.ensures.unseen refl;
-    }) (c.if-is_full.ensures refl) small c.loop-file.invariant
+    }) (c.if-is_full.ensures.room refl) small c.loop-file.invariant

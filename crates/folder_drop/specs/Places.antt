@@ -1,0 +1,40 @@
+-- The order of the files of a Maildir, which is that of messages.
+use Rattle.std.specs.{
+  Prelude.{ℕ, List, String, map, string_bytes},
+  Cmp.Lexicographic.slice_cmp,
+  List.Sorted.IsSorted,
+  Ordering.{nat_cmp, on, then_cmp},
+  declared.cmp.Ordering.Ordering,
+}
+use Rattle.mail_terms.specs.MaildirName.{base}
+use Rattle.folder_drop.specs.declared.maildir_names.{
+  Folder.{Folder, TheVariants.{Cur, New}},
+  PlacedFile.PlacedFile,
+}
+
+abbrev pub name_of_file : PlacedFile → List ℕ
+name_of_file file = string_bytes file.name
+
+abbrev pub base_of_file : PlacedFile → List ℕ
+base_of_file file = base (name_of_file file)
+
+-- the folder and the name of a file
+abbrev pub folder_and_name : PlacedFile → Folder × List ℕ
+folder_and_name file = (file.folder, name_of_file file)
+
+-- `cur` comes before `new`
+abbrev pub rank : Folder → ℕ
+rank Cur = 0
+rank New = 1
+
+-- these names in a folder
+abbrev pub named_in : {Z : Type 0} → Folder → List (String Z) → List (Folder × List ℕ)
+named_in folder names = map (λ name. (folder, string_bytes name)) names
+
+-- by the bytes of their bases, then by their folders, then by the bytes of their whole names
+abbrev pub place_cmp : PlacedFile → PlacedFile → Ordering
+place_cmp = then_cmp (on base_of_file (slice_cmp nat_cmp))
+    (then_cmp (on (λ (file : PlacedFile). rank file.folder) nat_cmp) (on name_of_file (slice_cmp nat_cmp)))
+
+abbrev pub AreInOrder : List PlacedFile → Type 0
+AreInOrder = IsSorted place_cmp
