@@ -46,11 +46,12 @@ pub record FetchesAt {W D F : Type 0} (link : WireGhosts W) (disk : DiskGhosts D
 
 -- what a session said was written, and this is its exit status
 pub record TellsOf {O E : Type 0} (out_contents : O → Option (List ℕ)) (err_contents : E → Option (List ℕ))
-    (settings : Settings) (IsPlan : Report → List Step → Type 0) (told : Told) (out : Output O)
+    (settings : Settings) (paths : Paths) (IsPlan : Report → List Step → Type 0) (told : Told) (out : Output O)
     (errors : Errors E) (status : ℕ) (out' : Output O) : Type 0 where
   pub fetched : Fetched
   pub errors' : Errors E
-  pub tells : TellsAll out_contents err_contents errors.explains settings IsPlan told out errors fetched out' errors'
+  pub tells : TellsAll out_contents err_contents errors.explains settings (string_bytes paths.destination)
+      (string_bytes paths.record) IsPlan told out errors fetched out' errors'
   pub status_is : status ≡ fetched.status
 
 -- a session of a setup was held over some link, or only previewed; the status is 0 if it ended and all was written

@@ -1,15 +1,18 @@
 -- What was noted of a session that a fault cut: which file or folder its refused call was about.
 use Rattle.std.specs.{
-  Prelude.{◌≡◌, ◌⊎◌, ◌==◌, ◌+◌, ℕ, Bool, true, false, not, List, [], None, bytes_eq, codes, drop, length, take},
-  Prelude.{if◌then◌else◌},
+  Prelude.{◌≡◌, ◌⊎◌, ◌↔◌, ◌==◌, ◌+◌, ◌++◌, ℕ, Bool, true, false, not, List, [], Option, None, Some, bytes_eq},
+  Prelude.{IsSomeAnd, IsTrue, codes, drop, length, take, if◌then◌else◌},
+  IoError.error_kind,
   List.{ends_with, prefix_len, starts_with},
   Str.{IsCharBoundary, Pattern.{RFindsChar, SplitsAroundMatch}},
   String.string_bytes,
+  declared.io.ErrorKind.TheVariants.{PermissionDenied, WouldBlock},
 }
 use Rattle.fetch_session.specs.declared.{
   fault.{Fault.{Fault, TheVariants.{StoreRefused, SeenRefused}}, Why.{Why, TheVariants.{Missing, Refused, NotMbox}}},
-  report.Outcome.{Outcome, TheVariants.{Ended, Cut}},
+  report.Outcome.{Outcome, TheVariants.Cut},
 }
+use Rattle.system_calls.specs.declared.refusal.Refusal.{Refusal}
 use Rattle.getmail_program.specs.declared.findings.Findings.{Findings}
 
 abbrev pub is_slash : ℕ → Bool
@@ -65,17 +68,35 @@ IsPlace (StoreRefused why) is_denied path destination seen place = IsStorePlace 
 IsPlace SeenRefused is_denied path destination seen place = IsRecordPlace is_denied path seen place
 IsPlace fault is_denied path destination seen place = place ≡ path
 
--- a copy of a text; empty if there is no memory for it
-abbrev pub IsCopyOrNone : List ℕ → List ℕ → Type 0
-IsCopyOrNone text copy = (copy ≡ text) ⊎ (copy ≡ [])
+-- it was refused for want of rights
+abbrev pub IsDenied : Option Refusal → Bool → Type 0
+IsDenied refusal is_denied =
+    IsTrue is_denied ↔ IsSomeAnd refusal (λ refusal. error_kind refusal.error ≡ PermissionDenied)
 
--- nothing was refused, and no path is known
-abbrev pub HasNothing : Findings → Type 0
-HasNothing found = (found.refused.items ≡ []) × (found.is_denied ≡ false)
-    × (string_bytes found.destination ≡ []) × (string_bytes found.record ≡ [])
+-- what was refused, with the path that its fault is told with
+abbrev pub IsToldAt : Fault → List ℕ → List ℕ → Option Refusal → Option Refusal → Type 0
+IsToldAt fault destination seen None told = told ≡ None
+IsToldAt fault destination seen (Some refusal) told = IsSomeAnd told (λ told. (told.error ≡ refusal.error)
+    × ((is_denied : Bool) × IsDenied (Some refusal) is_denied
+    × IsPlace fault is_denied (string_bytes refusal.path) destination seen (string_bytes told.path)))
 
--- something is noted of a cut alone, if reasons are asked for: also the paths of the run
-abbrev pub FindsOn : Bool → Outcome → List ℕ → List ℕ → Findings → Type 0
-FindsOn true (Cut fault) destination seen found =
-    IsCopyOrNone destination (string_bytes found.destination) × IsCopyOrNone seen (string_bytes found.record)
-FindsOn asked outcome destination seen found = HasNothing found
+-- the words of a refusal: of a call that waited for a limited time these; else the system's, of which nothing is said
+abbrev pub IsWaited : Refusal → List ℕ → Type 0
+IsWaited refusal text = error_kind refusal.error ≡ WouldBlock
+    → text ≡ string_bytes refusal.path ++ codes ": silent for 180 seconds"
+
+abbrev pub IsRefusedText : Option Refusal → List ℕ → Type 0
+IsRefusedText None text = text ≡ []
+IsRefusedText (Some refusal) text = IsWaited refusal text
+
+-- what is noted of a cut, if reasons are asked for: what was refused to the fault's device, if that is known
+abbrev pub NotesOn : Bool → Outcome → List ℕ → List ℕ → List ℕ → Bool → Type 0
+NotesOn true (Cut fault) destination seen refused is_denied = (refusal told : Option Refusal)
+    × IsToldAt fault destination seen refusal told × IsRefusedText told refused × IsDenied told is_denied
+NotesOn asked outcome destination seen refused is_denied = (refused ≡ []) × (is_denied ≡ false)
+
+-- that, and the paths of the run
+pub record FindsOn (asked : Bool) (outcome : Outcome) (destination seen : List ℕ) (found : Findings) : Type 0 where
+  pub notes : NotesOn asked outcome destination seen found.refused.items found.is_denied
+  pub destination_is : found.destination.now ≡ destination
+  pub record_is : found.record.now ≡ seen

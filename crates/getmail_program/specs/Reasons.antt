@@ -46,14 +46,14 @@ reason_text TooMany found = codes "100000 can be fetched; the answer to "
     ++ (found.said.command.items ++ (codes " is " ++ found.said.answer.items))
 reason_text TextTooLong found = codes "268435456 octets hold no whole message, " ++ place_in found.said
 reason_text (StoreRefused why.NotMbox) found =
-    string_bytes found.destination ++ codes
+    found.destination.now ++ codes
     ": it isn't empty, and has no `From ` at its front or no empty line at its end"
 reason_text (StoreRefused other) found = or_else found.refused.items
-    (string_bytes found.destination ++ codes ": the system gave no reason")
+    (found.destination.now ++ codes ": the system gave no reason")
 reason_text SeenRefused found = or_else found.refused.items
-    (string_bytes found.record ++ codes ": the system gave no reason")
+    (found.record.now ++ codes ": the system gave no reason")
 reason_text NoMemory found = codes "it ran out " ++ place_in found.said
-reason_text (BadSeen line) found = string_bytes found.record ++ codes ": a record has no such line"
+reason_text (BadSeen line) found = found.record.now ++ codes ": a record has no such line"
 
 -- the line of a reason: the account, and the reason
 abbrev pub reason_line : Settings → List ℕ → List ℕ

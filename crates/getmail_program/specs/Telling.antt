@@ -1,6 +1,6 @@
 -- What is told at a session's end.
 use Rattle.std.specs.{
-  Prelude.{◌≡◌, ◌⊎◌, ℕ, Bool, true, false, ◌==◌, List, [], ◌++◌, Option, None, Some, codes, length, if◌then◌else◌},
+  Prelude.{◌≡◌, ◌≢◌, ◌⊎◌, ℕ, Bool, true, false, ◌==◌, List, [], ◌++◌, Option, None, Some, codes, length, if◌then◌else◌},
   Fmt.decimal,
 }
 use Rattle.rc_file.specs.declared.settings.Settings.{Settings}
@@ -19,6 +19,7 @@ use Rattle.getmail_setup.specs.{
 }
 use Rattle.getmail_program.specs.{
   declared.{ending.Fetched.Fetched, findings.Findings.Findings, told.Told.{Told, TheVariants.{Done, Ahead}}},
+  Findings.FindsOn,
   Reasons.{reason_line, reasons_said},
   Teller.TellsEarly,
 }
@@ -103,12 +104,20 @@ unwritten_line outcome (Some Refused) = codes "getmail: cannot write standard ou
 
 -- ---- what is written at a session's end
 
--- the line of the fault that cut a session, if one did, and its reasons, from what was noted, were written
-pub record TellsCut {E : Type 0} (contents : E → Option (List ℕ)) (settings : Settings) (outcome : Outcome)
-    (old new : Errors E)
-    : Type 0 where
-  pub found : Findings
-  pub puts : Puts contents old.err (outcome_line outcome ++ reasons_said settings old.says_why outcome found) new.err
+-- the reasons of an outcome, from what was noted of it; or none, since memory ran out for them: then nothing more is
+-- written
+abbrev pub SaysReasons : Settings → Bool → Outcome → List ℕ → List ℕ → Option OutputRefusal → List ℕ → Type 0
+SaysReasons settings says_why outcome destination seen refusal reasons =
+    ((found : Findings) × FindsOn says_why outcome destination seen found
+    × (reasons ≡ reasons_said settings says_why outcome found))
+    ⊎ ((refusal ≢ None) × (reasons ≡ []))
+
+-- the line of the fault that cut a session, if one did, and its reasons were written
+pub record TellsCut {E : Type 0} (contents : E → Option (List ℕ)) (settings : Settings) (destination seen : List ℕ)
+    (outcome : Outcome) (old new : Errors E) : Type 0 where
+  pub reasons : List ℕ
+  pub are_reasons : SaysReasons settings old.says_why outcome destination seen new.err.refusal reasons
+  pub puts : Puts contents old.err (outcome_line outcome ++ reasons) new.err
   pub same : new.says_why ≡ old.says_why
 
 -- the exit status: 0 if the session ended and all was written
@@ -119,24 +128,26 @@ status_when (Cut fault) why = 1
 
 -- to `err` were written the line of the fault that cut a session with its reasons, the line of a text that wasn't
 -- written, and the line on messages that were left out
-pub record TellsErrors {E : Type 0} (contents : E → Option (List ℕ)) (settings : Settings) (told : Told)
-    (refusal : Option OutputRefusal) (old : Errors E) (fetched : Fetched) (new : Errors E) : Type 0 where
+pub record TellsErrors {E : Type 0} (contents : E → Option (List ℕ)) (settings : Settings) (destination seen : List ℕ)
+    (told : Told) (refusal : Option OutputRefusal) (old : Errors E) (fetched : Fetched) (new : Errors E)
+    : Type 0 where
   pub idle : fetched.is_idle ≡ is_idle told
   pub status : fetched.status ≡ status_when (told_outcome told) refusal
-  pub found : Findings
+  pub reasons : List ℕ
+  pub are_reasons : SaysReasons settings old.says_why (told_outcome told) destination seen new.err.refusal reasons
   pub left_out : List ℕ
   pub is_left_out : SaysLeftOut settings old.says_why told left_out
   pub said : Puts contents old.err
-      (((outcome_line (told_outcome told) ++ reasons_said settings old.says_why (told_outcome told) found)
-      ++ unwritten_line (told_outcome told) refusal) ++ left_out) new.err
+      (((outcome_line (told_outcome told) ++ reasons) ++ unwritten_line (told_outcome told) refusal) ++ left_out)
+      new.err
 
 -- what a session said was written to `out`, and nothing else; and the rest to `err`
 pub record TellsAll {O E : Type 0} (out_contents : O → Option (List ℕ)) (err_contents : E → Option (List ℕ))
-    (explains : Bool) (settings : Settings) (IsPlan : Report → List Step → Type 0) (told : Told)
-    (out : Output O) (old : Errors E) (fetched : Fetched) (out' : Output O) (new : Errors E)
+    (explains : Bool) (settings : Settings) (destination seen : List ℕ) (IsPlan : Report → List Step → Type 0)
+    (told : Told) (out : Output O) (old : Errors E) (fetched : Fetched) (out' : Output O) (new : Errors E)
     : Type 0 where
   pub reported : Reported out_contents explains settings IsPlan told out out'
-  pub errors : TellsErrors err_contents settings told out'.refusal old fetched new
+  pub errors : TellsErrors err_contents settings destination seen told out'.refusal old fetched new
 
 -- how many messages a session left out, of those that an unattended run counts
 abbrev pub counts_of : LeftOut → Counts

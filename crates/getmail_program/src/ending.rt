@@ -1,19 +1,21 @@
 //! What is written to standard error at a session's end.
-ghost use Rattle.std.specs.Prelude.{◌≡◌, ◌≤◌};
+ghost use Rattle.std.specs.Prelude.{◌≡◌, ◌≤◌, IfOk};
 ghost use Rattle.getmail_setup.specs.Output.{Puts};
+ghost use Rattle.getmail_program.specs.{Findings.FindsOn, Reasons.reasons_said};
 ghost use Rattle.getmail_program.specs.Telling.{TellsCut, TellsErrors, lacks_memory, outcome_line, status_when};
 ghost use Rattle.getmail_program.specs.Telling.{unwritten_line};
 
 use crate::fault_line::put_fault;
-use crate::findings::findings_on;
+use crate::findings::{Findings, findings_on};
 use crate::left_out::tell_left_out;
 use crate::reason::reasons_said;
 use crate::told::{RunTerms, Told};
 use fetch_rules::Settings;
 use fetch_session::{Outcome, fault_number};
 use getmail_setup::{Errors, OUT_OF_MEMORY, Output, OutputRefusal, Subject};
-use std::alloc::Global;
+use std::alloc::{AllocError, Global};
 use std::io::Write;
+use std::vec::Vec;
 
 /// The number of want of memory among faults.
 const NO_MEMORY: u8 = 13;
@@ -37,6 +39,22 @@ fn put_outcome<E: Write>(alloc: Global, outcome: &Outcome, err: &mut Output<E>)
     }
 }
 
+/// What is said of an outcome, if reasons are asked for.
+fn reasons_on<E>(
+    alloc: Global,
+    settings: &Settings,
+    terms: &RunTerms<'_>,
+    outcome: &Outcome,
+    errors: &Errors<'_, E>,
+) -> Result<Vec<u8>, AllocError>
+    ensures { IfOk result (λ lines. (found : Findings) × FindsOn errors.now.says_why outcome.now
+        terms.entry.now.destination.now terms.entry.now.record.now found
+        × (lines.items ≡ reasons_said settings.now errors.now.says_why outcome.now found)) }
+{
+    let found = findings_on(alloc, outcome, terms, errors)?;
+    reasons_said(alloc, settings, errors.says_why, outcome, &found)
+}
+
 /// Writes the line of the fault that cut a session, if one did, and its reasons, if they are asked for.
 fn tell_cut<E: Write>(
     alloc: Global,
@@ -45,10 +63,10 @@ fn tell_cut<E: Write>(
     outcome: &Outcome,
     errors: &mut Errors<'_, E>,
 )
-    ensures { TellsCut E.contents settings.now outcome.now errors.old errors.new }
+    ensures { TellsCut E.contents settings.now terms.entry.now.destination.now terms.entry.now.record.now outcome.now
+        errors.old errors.new }
 {
-    let found = findings_on(alloc, outcome, terms, errors);
-    let reasons = reasons_said(alloc, settings, errors.says_why, outcome, &found);
+    let reasons = reasons_on(alloc, settings, terms, outcome, errors);
     put_outcome(alloc, outcome, &mut errors.err);
     match reasons {
         Ok(lines) => errors.err.put(&lines),
@@ -117,7 +135,8 @@ pub fn tell_all<E: Write>(
     errors: &mut Errors<'_, E>,
 ) -> Fetched
     ensures within { result.status ≤ 1 }
-    ensures told { TellsErrors E.contents settings.now told.now refusal errors.old result errors.new }
+    ensures told { TellsErrors E.contents settings.now terms.entry.now.destination.now terms.entry.now.record.now
+        told.now refusal errors.old result errors.new }
 {
     let outcome = told.outcome();
     tell_cut(alloc, settings, terms, &outcome, errors);

@@ -230,7 +230,8 @@ pub fn fetch_into<
     ensures same { IsSameAccount account.old account.new }
     ensures fetched { (told : Told) × HoldsSession W.Wire D.MaildirDisk F.FlatFile terms.entry.pretends terms.entry.now
         account.old wire.old.wire told account.new wire.new.wire
-        × TellsAll O.contents E.contents terms.entry.explains account.old.settings
+        × TellsAll O.contents E.contents terms.entry.explains account.old.settings terms.entry.destination.now
+        terms.entry.record.now
         (IsPlanOf W.Wire D.MaildirDisk F.FlatFile terms.entry.now account.old wire.old.wire account.new wire.new.wire)
         told out.old errors.old result out.new errors.new }
 {
@@ -271,7 +272,7 @@ where
         × (fetched : FetchesAt W.Wire M.Maildir.MaildirDisk M.File.FlatFile
         (M.made_store devices.now) (M.made_record devices.now) (M.showed devices.now)
         errand.entry.settings errand.entry.paths.now errand.entry.pretends time link.0 told)
-        × TellsOf O.contents E.contents errand.entry.settings
+        × TellsOf O.contents E.contents errand.entry.settings errand.entry.paths.now
         (IsPlanOf W.Wire M.Maildir.MaildirDisk M.File.FlatFile (second_of time)
         (holding_of errand.entry.settings fetched.store fetched.seen_file) link.0 fetched.left fetched.wire')
         told out.old errors.entry result out.new }

@@ -1,21 +1,23 @@
 //! What was noted of a session that a fault cut.
 ghost use Rattle.std.specs.{
-  Prelude.{◌≡◌, ◌≤◌, ◌⊎◌, ◌++◌, ◌↔◌, IfOk, IsTrue, codes, length},
+  Prelude.{◌≡◌, ◌≤◌, ◌++◌, ◌↔◌, IfOk, IsSomeAnd, IsTrue, codes, length},
   IoError.error_kind,
   List.prefix_len,
   String.string_bytes,
 };
 ghost use Rattle.getmail_program.specs.Findings.{
   FindsOn,
-  HasNothing,
-  IsCopyOrNone,
+  IsDenied,
   IsDeniedIn,
   IsFolderIn,
-  IsTextFront,
   IsPlace,
+  IsToldAt,
   IsRecordFolder,
   IsRecordPlace,
+  IsRefusedText,
   IsStorePlace,
+  IsTextFront,
+  IsWaited,
   folder_end,
   is_in_name,
   is_slash,
@@ -24,7 +26,7 @@ ghost use Rattle.getmail_program.specs.Findings.{
 
 use crate::told::RunTerms;
 use fetch_session::{Fault, Outcome, Why};
-use getmail_setup::{Errors, Reasons, SILENT};
+use getmail_setup::{Errors, Journal, Reasons, SILENT};
 use std::alloc::{AllocError, Global};
 use std::io::ErrorKind;
 use system_calls::Refusal;
@@ -32,7 +34,7 @@ use trace::Said;
 
 /// What was noted of a session that a fault cut; what wasn't is empty.
 #[derive(Drop)]
-pub struct Findings {
+pub struct Findings<'a> {
     /// What was said in the conversation.
     pub said: Said,
     /// What the system refused to the device that the fault is of, and what it said.
@@ -40,9 +42,9 @@ pub struct Findings {
     /// Whether it refused that for want of rights.
     pub is_denied: bool,
     /// The destination's path.
-    pub destination: String,
+    pub destination: &'a str,
     /// The record's path.
-    pub record: String,
+    pub record: &'a str,
 }
 
 /// Whether a call was refused since it waited for a limited time.
@@ -62,8 +64,7 @@ fn silent_text(alloc: Global, path: &str) -> Result<Vec<u8>, AllocError>
 
 /// What a call was refused for.
 fn waited(alloc: Global, refusal: &Refusal) -> Result<Vec<u8>, AllocError>
-    ensures { error_kind refusal.now.error ≡ ErrorKind.WouldBlock → IfOk result (λ text. text.items
-        ≡ string_bytes refusal.now.path ++ codes ": silent for 180 seconds") }
+    ensures { IfOk result (λ text. IsWaited refusal.now text.items) }
 {
     if has_waited(refusal) {
         return silent_text(alloc, refusal.path.as_str());
@@ -206,10 +207,13 @@ fn place_of(
 }
 
 /// Whether something was refused for want of rights.
-fn is_denied(refusal: &Refusal) -> bool
-    ensures { IsTrue result ↔ error_kind refusal.now.error ≡ ErrorKind.PermissionDenied }
+fn is_denied(refusal: &Option<Refusal>) -> bool
+    ensures { IsDenied refusal.now result }
 {
-    refusal.error.kind() == ErrorKind::PermissionDenied
+    match refusal {
+        Some(refusal) => refusal.error.kind() == ErrorKind::PermissionDenied,
+        None => false,
+    }
 }
 
 /// What was refused to the device that a fault is of. It is taken out.
@@ -222,100 +226,72 @@ fn refusal_for(reasons: &Reasons, fault: &Fault) -> Option<Refusal> {
     }
 }
 
-/// A copy of a text; empty if there is no memory for it.
-fn copied(alloc: Global, text: &str) -> String
-    ensures { IsCopyOrNone text.now (string_bytes result) }
-{
-    match String::from_str(alloc, text) {
-        Ok(copy) => copy,
-        Err(_) => String::new(alloc),
-    }
-}
-
-/// A refusal with the path that its fault is told with; with its own if there is no memory for that.
-fn with_place(
-    alloc: Global,
-    refusal: Refusal,
-    is_denied: bool,
-    fault: &Fault,
-    terms: &RunTerms<'_>,
-) -> Refusal
-    ensures error { result.error ≡ refusal.error }
-    ensures place { (string_bytes result.path ≡ string_bytes refusal.path)
-        ⊎ IsPlace fault.now is_denied (string_bytes refusal.path) terms.entry.now.destination.now
-        terms.entry.now.record.now (string_bytes result.path) }
-{
-    match place_of(alloc, fault, is_denied, refusal.path.as_str(), terms) {
-        Ok(path) => Refusal {
-            path,
-            error: refusal.error,
-        },
-        Err(_) => refusal,
-    }
-}
-
-/// What was refused, in words. An unattended run takes faults of one path for the same.
-fn refused<E>(alloc: Global, refusal: &Refusal, errors: &Errors<'_, E>) -> Vec<u8>
-    ensures { error_kind refusal.now.error ≡ ErrorKind.WouldBlock
-        → IsCopyOrNone (string_bytes refusal.now.path ++ codes ": silent for 180 seconds") result.items }
-{
-    if let Some(journal) = errors.journal {
-        journal.note_place(refusal.path.as_str());
-    }
-    match waited(alloc, refusal) {
-        Ok(text) => text,
-        Err(_) => Vec::new(alloc),
-    }
-}
-
-/// What was refused to the device that a fault is of, in words, and whether it was for want of rights.
-fn refused_to<E>(
+/// What was refused, if that is known, with the path that its fault is told with.
+fn placed(
     alloc: Global,
     fault: &Fault,
     terms: &RunTerms<'_>,
-    errors: &Errors<'_, E>,
-) -> (Vec<u8>, bool) {
-    let Some(refusal) = refusal_for(errors.reasons, fault) else {
-        return (Vec::new(alloc), false);
-    };
+    refusal: Option<Refusal>,
+) -> Result<Option<Refusal>, AllocError>
+    ensures { IfOk result (IsToldAt fault.now terms.entry.now.destination.now terms.entry.now.record.now refusal) }
+{
     let is_denied = is_denied(&refusal);
-    let refusal = with_place(alloc, refusal, is_denied, fault, terms);
-    (refused(alloc, &refusal, errors), is_denied)
+    let Some(Refusal { path, error }) = refusal else {
+        return Ok(None);
+    };
+    let path = place_of(alloc, fault, is_denied, path.as_str(), terms)?;
+    Ok(Some(Refusal { path, error }))
 }
 
-/// Nothing was noted.
-fn nothing(alloc: Global) -> Findings
-    ensures { HasNothing result }
+/// What was refused, in words; empty if it isn't known.
+fn refused_text(alloc: Global, refusal: &Option<Refusal>) -> Result<Vec<u8>, AllocError>
+    ensures { IfOk result (λ text. IsRefusedText refusal.now text.items) }
 {
-    Findings {
-        said: Said::new(alloc),
-        refused: Vec::new(alloc),
-        is_denied: false,
-        destination: String::new(alloc),
-        record: String::new(alloc),
+    match refusal {
+        Some(refusal) => waited(alloc, refusal),
+        None => Ok(Vec::new(alloc)),
+    }
+}
+
+/// An unattended run takes faults of one path for the same.
+fn note_place(refusal: &Option<Refusal>, journal: Option<&Journal>) {
+    if let (Some(refusal), Some(journal)) = (refusal, journal) {
+        journal.note_place(refusal.path.as_str());
     }
 }
 
 /// What was noted of an outcome. It is taken out, if reasons are asked for.
-pub fn findings_on<E>(
+pub fn findings_on<'a, E>(
     alloc: Global,
     outcome: &Outcome,
-    terms: &RunTerms<'_>,
+    terms: &RunTerms<'a>,
     errors: &Errors<'_, E>,
-) -> Findings
-    ensures { FindsOn errors.now.says_why outcome.now terms.entry.now.destination.now terms.entry.now.record.now
-        result }
+) -> Result<Findings<'a>, AllocError>
+    ensures { IfOk result (FindsOn errors.now.says_why outcome.now terms.entry.now.destination.now
+        terms.entry.now.record.now) }
 {
+    let RunTerms {
+        destination,
+        record,
+        ..
+    } = *terms;
     let (Outcome::Cut(fault), true) = (outcome, errors.says_why) else {
-        return nothing(alloc);
+        return Ok(Findings {
+            said: Said::new(alloc),
+            refused: Vec::new(alloc),
+            is_denied: false,
+            destination,
+            record,
+        });
     };
     let said = errors.reasons.talk.take();
-    let (refused, is_denied) = refused_to(alloc, fault, terms, errors);
-    Findings {
+    let refusal = placed(alloc, fault, terms, refusal_for(errors.reasons, fault))?;
+    note_place(&refusal, errors.journal);
+    Ok(Findings {
         said,
-        refused,
-        is_denied,
-        destination: copied(alloc, terms.destination),
-        record: copied(alloc, terms.record),
-    }
+        refused: refused_text(alloc, &refusal)?,
+        is_denied: is_denied(&refusal),
+        destination,
+        record,
+    })
 }

@@ -73,7 +73,7 @@ fn rows_text(alloc: Global, said: &Said) -> Result<String, AllocError>
 }
 
 /// What was refused at a path, which is told if nothing else was noted.
-fn refused_at(alloc: Global, found: &Findings, path: &str) -> Result<Vec<u8>, AllocError>
+fn refused_at(alloc: Global, found: &Findings<'_>, path: &str) -> Result<Vec<u8>, AllocError>
     ensures { IfOk result (λ text. text.items
         ≡ or_else found.now.refused.items (path.now ++ codes ": the system gave no reason")) }
 {
@@ -87,7 +87,7 @@ const NO_MBOX: &[u8] =
 
 /// Where a fault is, with what the server said or the system refused, if that was noted: there is a text for
 /// each fault.
-fn reason_text(alloc: Global, fault: &Fault, found: &Findings) -> Result<Vec<u8>, AllocError>
+fn reason_text(alloc: Global, fault: &Fault, found: &Findings<'_>) -> Result<Vec<u8>, AllocError>
     ensures { IfOk result (λ text. text.items ≡ reason_text fault.now found.now) }
 {
     let said = &found.said;
@@ -118,8 +118,8 @@ fn reason_text(alloc: Global, fault: &Fault, found: &Findings) -> Result<Vec<u8>
         }
         Fault::TextTooLong => at_place(alloc, b"268435456 octets hold no whole message, ", said),
         Fault::StoreRefused(Why::NotMbox) => concat(alloc, found.destination.as_bytes(), NO_MBOX),
-        Fault::StoreRefused(_) => refused_at(alloc, found, found.destination.as_str()),
-        Fault::SeenRefused => refused_at(alloc, found, found.record.as_str()),
+        Fault::StoreRefused(_) => refused_at(alloc, found, found.destination),
+        Fault::SeenRefused => refused_at(alloc, found, found.record),
         Fault::NoMemory => at_place(alloc, b"it ran out ", said),
         Fault::BadSeen(_) => {
             concat(
@@ -132,14 +132,14 @@ fn reason_text(alloc: Global, fault: &Fault, found: &Findings) -> Result<Vec<u8>
 }
 
 /// Whether nothing was sent, and the server is on this machine.
-fn is_by_a_tunnel(settings: &Settings, found: &Findings) -> bool
+fn is_by_a_tunnel(settings: &Settings, found: &Findings<'_>) -> bool
     ensures { result ≡ is_by_a_tunnel settings.now found.now }
 {
     found.said.command.is_empty() && is_near(settings.server.as_str())
 }
 
 /// Where a tunnel says why it ended a connection at once; empty if no tunnel did.
-fn tunnel_hint(settings: &Settings, found: &Findings) -> &'static str
+fn tunnel_hint(settings: &Settings, found: &Findings<'_>) -> &'static str
     ensures { result.now ≡ tunnel_hint settings.now found.now }
 {
     if is_by_a_tunnel(settings, found) {
@@ -162,7 +162,7 @@ fn missing_hint(dest: &Dest) -> &'static str
 }
 
 /// How rights that are missing are given.
-fn rights_hint(found: &Findings) -> &'static str
+fn rights_hint(found: &Findings<'_>) -> &'static str
     ensures { result.now ≡ rights_hint found.now }
 {
     if found.is_denied {
@@ -180,7 +180,7 @@ fn says_cause(answer: &[u8]) -> bool
 }
 
 /// A name or a password that is wrong can be mended.
-fn login_hint(found: &Findings) -> &'static str
+fn login_hint(found: &Findings<'_>) -> &'static str
     ensures { result.now ≡ login_hint found.now }
 {
     if says_cause(&found.said.answer) {
@@ -191,7 +191,7 @@ fn login_hint(found: &Findings) -> &'static str
 }
 
 /// What else may help, where there is one remedy; empty if nothing is known to.
-fn hint_text(settings: &Settings, fault: &Fault, found: &Findings) -> &'static str
+fn hint_text(settings: &Settings, fault: &Fault, found: &Findings<'_>) -> &'static str
     ensures { result.now ≡ hint_text settings.now fault.now found.now }
 {
     match fault {
@@ -234,7 +234,7 @@ fn reasons_of(
     alloc: Global,
     settings: &Settings,
     fault: &Fault,
-    found: &Findings,
+    found: &Findings<'_>,
 ) -> Result<Vec<u8>, AllocError>
     ensures { IfOk result (λ lines. lines.items ≡ reasons_of settings.now fault.now found.now) }
 {
@@ -250,7 +250,7 @@ pub fn reasons_said(
     settings: &Settings,
     says_why: bool,
     outcome: &Outcome,
-    found: &Findings,
+    found: &Findings<'_>,
 ) -> Result<Vec<u8>, AllocError>
     ensures { IfOk result (λ lines. lines.items ≡ reasons_said settings.now says_why outcome.now found.now) }
 {
