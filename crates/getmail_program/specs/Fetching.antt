@@ -1,9 +1,10 @@
 -- A run over devices that are made for it.
 use Rattle.std.specs.{
-  Prelude.{◌≡◌, ◌⊎◌, ℕ, Bool, true, List, None, Option, Some},
+  Prelude.{◌≡◌, ◌⊎◌, ℕ, Bool, true, List, None, Option, Some, Result, Ok, Err, IfOk, String, option_map},
   Borrow.Bor,
+  Global.Global,
   String.string_bytes,
-  declared.time.SystemTime.SystemTime,
+  declared.{alloc.AllocError.AllocError, time.SystemTime.SystemTime},
 }
 use Rattle.pop3_wire.specs.declared.wire.Wire.{Ghosts as WireGhosts}
 use Rattle.mail_store.specs.declared.{
@@ -85,12 +86,18 @@ pub record TellsList {E : Type 0} (contents : E → Option (List ℕ)) (setup : 
   pub is_record : record_path.now ≡ string_bytes setup.paths.record
   pub tells : TellsFailure contents (Some setup.settings) (OtherList path record_path) old new
 
--- a run is stopped exactly if there is a list of what getmail6 fetched in whose place it is the first one; or for want
--- of memory, which is told
+-- by what was found a run is stopped, and that was told: exactly if it is a list, or if memory ran out
+abbrev pub StopsBy : {E : Type 0} → (E → Option (List ℕ)) → Setup → Result (Option (String Global)) AllocError
+    → Errors E → Errors E → Option ℕ → Type 0
+StopsBy contents setup (Ok None) old new status = (status ≡ None) × (new ≡ old)
+StopsBy contents setup (Ok (Some list)) old new status =
+    (status ≡ Some 2) × TellsList contents setup (string_bytes list) old new
+StopsBy contents setup (Err error) old new status = (status ≡ Some 2) × TellsFailure contents None NoMemory old new
+
+-- a run is stopped exactly if there is a list of what getmail6 fetched in whose place it is the first one; or if memory
+-- ran out for the answer
 abbrev pub StopsInPlace : {E : Type 0} → (E → Option (List ℕ)) → (List ℕ → Bool → Type 0) → (List ℕ → Bool → Type 0)
     → (List ℕ → List (List ℕ) → Type 0) → Setup → Errors E → Errors E → Option ℕ → Type 0
-StopsInPlace contents said said_free gave setup old new None =
-    IsOtherList said said_free gave setup None × (new ≡ old)
-StopsInPlace contents said said_free gave setup old new (Some status) =
-    ((list : List ℕ) × IsOtherList said said_free gave setup (Some list) × TellsList contents setup list old new)
-    ⊎ TellsFailure contents None NoMemory old new
+StopsInPlace contents said said_free gave setup old new status = (found : Result (Option (String Global)) AllocError)
+    × IfOk found (λ list. IsOtherList said said_free gave setup (option_map string_bytes list))
+    × StopsBy contents setup found old new status

@@ -318,3 +318,9 @@ pub record HasPatience (gave : Result Told AllocError → Type 0) (showed : Opti
   pub met : ℕ
   pub is_met : waiting.has_met ≡ true → (memory : Result Told AllocError) × gave memory × (met ≡ met_in memory)
   pub waits : waiting.is_patient ≡ not (is_long_held held met (second_of time))
+
+-- an unattended run leaves the account to another one as long as it is patient, and any other run doesn't
+abbrev pub LeavesToOther : (Result Told AllocError → Type 0) → (Option SystemTime → Type 0) → ℕ → Bool → Bool → Type 0
+LeavesToOther gave showed held false leaves = leaves ≡ false
+LeavesToOther gave showed held true leaves =
+    (waiting : Waiting) × HasPatience gave showed held waiting × (leaves ≡ waiting.is_patient)

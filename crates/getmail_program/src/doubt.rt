@@ -1,5 +1,5 @@
 //! What would keep a run from storing messages although a preview of it found nothing wrong.
-ghost use Rattle.std.specs.{Prelude.{◌≡◌, IfSome}, List.list_any};
+ghost use Rattle.std.specs.{Prelude.{◌≡◌, ◌≢◌, IfSome}, IoError.error_kind, List.list_any};
 ghost use Rattle.getmail_program.specs.Holding.{Doubts, RefusesFile, SaysAhead, would_store};
 
 use crate::told::RunTerms;
@@ -16,7 +16,11 @@ const TMP: &str = "tmp";
 
 /// The fault of a run that is refused `tmp`, as its device would be that begins a file there.
 fn fault_of(error: &io::Error) -> Fault
-    ensures { RefusesFile result }
+    ensures refuses { RefusesFile result }
+    ensures missing { error_kind error.now ≡ ErrorKind.NotFound → result ≡ Fault.StoreRefused Why.Missing }
+    ensures memory { error_kind error.now ≡ ErrorKind.OutOfMemory → result ≡ Fault.NoMemory }
+    ensures other { error_kind error.now ≢ ErrorKind.NotFound → error_kind error.now ≢ ErrorKind.OutOfMemory
+        → result ≡ Fault.StoreRefused Why.Refused }
 {
     match error.kind() {
         ErrorKind::NotFound => Fault::StoreRefused(Why::Missing),

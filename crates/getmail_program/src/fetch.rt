@@ -1,25 +1,28 @@
 //! A run: its setup, the lock, the connection, and one session.
-ghost use Rattle.std.specs.Prelude.{◌≡◌, ◌≤◌, ◌&&◌, ℕ, List, Option, IfErr, IfOk, IfSome, not, true};
+ghost use Rattle.std.specs.Prelude.{◌≡◌, ◌≤◌, ◌&&◌, ℕ, List, Option, IfErr, IfOk, IfSome, not, true, unwrap_or};
 ghost use Rattle.rc_file.specs.Settings.{IsValid};
-ghost use Rattle.getmail_setup.specs.declared.failure.Failure.{Failure};
 ghost use Rattle.getmail_setup.specs.{Failures.status_of, Lock.goes_on, Places.IsSetUp};
 ghost use Rattle.system_calls.specs.declared.system.System.{System};
-ghost use Rattle.getmail_program.specs.{Fetching.{EndsBefore, HoldsSetup, Runs, StopsInPlace}, Starting.Starts};
+ghost use Rattle.getmail_program.specs.{
+  Fetching.{EndsBefore, HoldsSetup, Runs, StopsBy, StopsInPlace},
+  News.LeavesToOther,
+  Starting.Starts,
+};
 
 use crate::devices::HostDevices;
 use crate::errand::{Errand, fetch_at};
-use crate::news_file::{HostPast, Waiting, patience};
+use crate::news_file::{HostPast, Past, Waiting, patience};
 use fetch_rules::Settings;
 use file_reading::ReadFile;
 use folder_store::{HostFile, HostFolder, HostMaildir, ProcessMark};
 use getmail_setup::{
-    Connection, Errors, Failure, Link, Lock, LookAt, OnMachine, Output, Peer, Reasons, Setup,
-    SystemLocks, Words, connect, fail, failure_of, home, link_over, other_list, peer_of, set_up,
-    take_lock, warn_of_network,
+    Connection, Errors, Failure, Journal, Link, Lock, LookAt, OnMachine, Output, Peer, Reasons,
+    Setup, SystemLocks, Words, connect, fail, failure_of, home, link_over, other_list, peer_of,
+    set_up, take_lock, warn_of_network,
 };
 use mail_store::{FlatFile, MaildirDisk};
 use pop3_wire::Wire;
-use std::alloc::Global;
+use std::alloc::{AllocError, Global};
 use std::env::Env;
 use std::fs::File;
 use std::hash::{BuildHasher, RandomState};
@@ -99,21 +102,26 @@ where
     fetch_at(rt, devices, errand, link, &mut out, errors)
 }
 
-/// Whether an unattended run leaves the account to another one that has the lock, and says nothing of it.
-fn leaves_to_other<R, E>(machine: &Machine<'_, R>, words: &Words, errors: &Errors<'_, E>) -> bool
-where
-    R: Files + Env + Clock + RandomSource + AllocGlobal + Clone + Drop,
-    ensures { result ≡ true → (words.now.unattended && not words.now.pretend) ≡ true }
+/// Whether a run leaves the account to another one that has the lock since this second, if that is known, and says
+/// nothing of it. Only an unattended one does.
+fn leaves_to_other<P: Past>(
+    past: &P,
+    words: &Words,
+    held: Option<u64>,
+    journal: Option<&Journal>,
+) -> bool
+    ensures asked { result ≡ true → (words.now.unattended && not words.now.pretend) ≡ true }
+    ensures leaves { LeavesToOther (P.gave past.now) (P.showed past.now) (unwrap_or held 0)
+        (words.now.unattended && not words.now.pretend) result }
 {
     if !is_unattended(words) {
         return false;
     }
-    let past = HostPast::new(machine.rt, machine.process, words);
     let Waiting {
         is_patient,
         has_met,
-    } = patience(&past, errors.reasons.held_since.get());
-    if let (true, Some(journal)) = (has_met, errors.journal) {
+    } = patience(past, held);
+    if let (true, Some(journal)) = (has_met, journal) {
         journal.note_met();
     }
     is_patient
@@ -136,24 +144,38 @@ pub fn is_unattended(words: &Words) -> bool
     words.unattended && !words.pretend
 }
 
-/// Stops a first run in getmail6's place, which would fetch all mail again: says so, and returns the exit status.
-fn stop_in_place<F: LookAt, E: Write>(
+/// Stops a run by what was found of getmail6's lists: says so, and returns the exit status.
+fn stop_by<E: Write>(
     alloc: Global,
-    files: &F,
+    found: Result<Option<String>, AllocError>,
     setup: &Setup,
     errors: &mut Errors<'_, E>,
 ) -> Option<u8>
-    ensures status { IfSome result (λ status. ((failure : Failure) × (status ≡ status_of failure)) × (status ≤ 2)) }
-    ensures stops { StopsInPlace E.contents (F.said files.now) (F.said_free files.now) (F.gave files.now) setup.now
-        errors.old errors.new result }
+    ensures status { IfSome result (λ status. status ≡ 2) }
+    ensures stops { StopsBy E.contents setup.now found errors.old errors.new result }
 {
-    let list = match other_list(alloc, files, setup) {
+    let list = match found {
         Ok(Some(list)) => list,
         Ok(None) => return None,
         Err(_) => return Some(fail(alloc, Failure::NoMemory, None, errors)),
     };
     let failure = Failure::OtherList(list.as_str(), setup.paths.record.as_str());
     Some(fail(alloc, failure, Some(&setup.settings), errors))
+}
+
+/// Stops a first run in getmail6's place, which would fetch all mail again.
+fn stop_in_place<F: LookAt, E: Write>(
+    alloc: Global,
+    files: &F,
+    setup: &Setup,
+    errors: &mut Errors<'_, E>,
+) -> Option<u8>
+    ensures status { IfSome result (λ status. status ≡ 2) }
+    ensures stops { StopsInPlace E.contents (F.said files.now) (F.said_free files.now) (F.gave files.now) setup.now
+        errors.old errors.new result }
+{
+    let found = other_list(alloc, files, setup);
+    stop_by(alloc, found, setup, errors)
 }
 
 /// Sets a run up from the rc file that the words name, and takes its lock. If it isn't to go on, says why, and returns
@@ -194,7 +216,8 @@ where
     note_names(alloc, &setup, &prepared, errors);
     let lock = take_lock(alloc, &SystemLocks { rt, reasons }, &setup, errors);
     if let Lock::Elsewhere = &lock {
-        if leaves_to_other(machine, words, errors) {
+        let past = HostPast::new(rt, machine.process, words);
+        if leaves_to_other(&past, words, reasons.held_since.get(), errors.journal) {
             return Err(0);
         }
         return Err(fail(alloc, Failure::AtWork, Some(&setup.settings), errors));

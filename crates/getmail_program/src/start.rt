@@ -1,6 +1,6 @@
 //! A run from its command line to its exit status.
 ghost use Rattle.std.specs.{
-  Prelude.{◌≡◌, ◌≤◌, ◌∷◌, [], None, codes, false, map, option_map, true, IfErr, IfOk},
+  Prelude.{◌≡◌, ◌≤◌, ◌∷◌, ◌&&◌, ◌||◌, [], None, codes, false, map, not, option_map, true, IfErr, IfOk},
   String.string_bytes,
 };
 ghost use Rattle.getmail_setup.specs.Failures.{status_of};
@@ -46,6 +46,30 @@ fn errors_kept<'a>(journal: &'a Journal, reasons: &'a Reasons) -> Errors<'a, Kep
         explains: true,
         reasons,
         journal,
+    }
+}
+
+/// What a run at a terminal or in a script says, and where: on standard error. Reasons are told to whoever is at a
+/// terminal, and to those who ask.
+fn errors_shown<'a>(
+    words: &Words,
+    err: Stderr,
+    is_terminal: bool,
+    is_shown: bool,
+    reasons: &'a Reasons,
+) -> Errors<'a, Stderr>
+    ensures why { result.says_why ≡ (words.now.why || words.now.unattended || is_terminal) }
+    ensures explains { result.explains ≡ (words.now.why || is_shown) }
+    ensures progress { result.shows_progress ≡ (is_terminal && not words.now.trace) }
+    ensures none { result.err.refusal ≡ None }
+{
+    Errors {
+        err: Output::new(err),
+        shows_progress: is_terminal && !words.trace,
+        says_why: words.why || words.unattended || is_terminal,
+        explains: words.why || is_shown,
+        reasons,
+        journal: None,
     }
 }
 
@@ -197,14 +221,7 @@ where
     let is_terminal = err.is_terminal();
     let trace = if words.trace { Some(err) } else { None };
     let reasons = Reasons::new(rt.alloc(), trace);
-    let mut errors = Errors {
-        err: Output::new(err),
-        shows_progress: is_terminal && !words.trace,
-        says_why: words.why || words.unattended || is_terminal,
-        explains: words.why || streams.1.is_terminal(),
-        reasons: &reasons,
-        journal: None,
-    };
+    let mut errors = errors_shown(&words, err, is_terminal, streams.1.is_terminal(), &reasons);
     if words.rehearse {
         return rehearse_told(rt.alloc(), &words, streams, trace, &mut errors);
     }

@@ -3,8 +3,8 @@ use Rattle.mail_store.specs.Maildir.{maildir_refused}
 use Rattle.fetch_session.specs.Target.{no_maildir}
 use Rattle.getmail_program.proofs.doubt.fault_of.Goals as goal
 
-pub returns-in-NotFound : goal.returns-in-NotFound
-returns-in-NotFound c = inr (no_maildir, no_maildir, [], inl (refl, refl, refl))
+pub returns-in-NotFound-clause-refuses : goal.returns-in-NotFound-clause-refuses
+returns-in-NotFound-clause-refuses c = inr (no_maildir, no_maildir, [], inl (refl, refl, refl))
 
-pub returns-in_default : goal.returns-in_default
-returns-in_default c = inr (no_maildir, maildir_refused no_maildir, [], inr (refl, refl))
+pub returns-in_default-clause-refuses : goal.returns-in_default-clause-refuses
+returns-in_default-clause-refuses c = inr (no_maildir, maildir_refused no_maildir, [], inr (refl, refl))

@@ -22,7 +22,7 @@ returns-in-Some-clause-err g c = (
     inr (
       c.in-Ok-set_up.setup,
       c.in-Ok-set_up.ensures.ok,
-      inr c.in-Some.ensures.status.0,
+      inr (NoMemory, c.in-Some.ensures.status),
     ),
   ),
 )
@@ -48,7 +48,7 @@ returns-then-leaves_to_other-clause-err g c = (
     inr (
       c.in-Ok-set_up.setup,
       c.in-Ok-set_up.ensures.ok,
-      inl (c.leaves_to_other.ensures c.if-leaves_to_other.true, refl),
+      inl (c.leaves_to_other.ensures.asked c.if-leaves_to_other.true, refl),
     ),
   ),
 )
