@@ -5,6 +5,7 @@ ghost use Rattle.folder_store.specs.ExactListing.{IsExactListing, left_of};
 
 use crate::mail_folders::Sought;
 use mail_store::Asked;
+use memchr::{memchr_iter, memchr2};
 use std::alloc::{AllocError, Global};
 use std::cmp::Ordering;
 use std::fs::Metadata;
@@ -220,9 +221,7 @@ fn shared_front(texts: &[String]) -> &[u8] {
 
 /// The stem of a name.
 fn stem_in(name: &[u8]) -> &[u8] {
-    name.split(|octet| *octet == b':' || *octet == b',')
-        .next()
-        .unwrap_or(name)
+    &name[..memchr2(b':', b',', name).unwrap_or(name.len())]
 }
 
 /// The lower-case hexadecimal digits of an octet.
@@ -290,7 +289,10 @@ impl<'b> Search<'b> {
         octets: &[u8],
         found: &mut Vec<String>,
     ) -> Result<(), AllocError> {
-        for name in octets.split(|octet| *octet == 0) {
+        let mut begin = 0;
+        for end in memchr_iter(0, octets) {
+            let name = octets.get(begin..end).unwrap_or(b"".as_slice());
+            begin = end.saturating_add(1);
             if name.is_empty() || name.starts_with(b".") || !name.starts_with(self.front) {
                 continue;
             }
