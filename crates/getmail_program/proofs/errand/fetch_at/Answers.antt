@@ -21,7 +21,13 @@ returns-clause-fetches g c =
       record {
         fetched = c.fetch_into-fetched.result;
         errors' = c.fetch_into-fetched.new.errors;
-        tells = rw (made, c.shown-wire.ensures, c.second_of.ensures) at tells;
+        tells = rw (
+          made,
+          c.shown-wire.ensures,
+          c.second_of.ensures,
+          c.as_str-destination.ensures.value,
+          c.as_str-record.ensures.value,
+        ) at tells;
         status_is = c.into_status.ensures;
       },
     )
