@@ -6,10 +6,10 @@
    The kinds: `read-timeout` and `write-timeout`, a bound on the waits of a socket; `random`, random octets; `look`,
    a look at a file of a folder `new` and `record`, one at a file `seen-..`, which fail by a fault of the device, the
    first where files have no second name, so that a name is looked up; `told`, a look at a file `told-..`, for want
-   of memory; `folder-flush`, the flush of a folder, with
-   REFUSED_FOLDER only of that one, and `sparing-rename`, a rename that spares what is there, as on
-   a file system that has none; `lock-none-left` and `lock-unsupported`, the lock of a file. With REFUSED_WHEN none
-   is refused before the file of that path is there. */
+   of memory; `folder-flush` and `folder-flush-unsupported`, the flush of a folder, with REFUSED_FOLDER only of that
+   one, and `sparing-rename`, a rename that spares what is there, as on a file system that has none; `lock-none-left`
+   and `lock-unsupported`, the lock of a file. With REFUSED_WHEN none is refused before the file of that path is
+   there. */
 
 #include "preloaded.h"
 #include <sys/file.h>
@@ -61,9 +61,10 @@ int fsync(int descriptor)
     struct stat found;
     char path[PATH_MAX];
 
-    if (refuses("folder-flush") && !fstat(descriptor, &found) && S_ISDIR(found.st_mode)
+    if ((refuses("folder-flush") || refuses("folder-flush-unsupported")) && !fstat(descriptor, &found)
+        && S_ISDIR(found.st_mode)
         && (!getenv("REFUSED_FOLDER") || is_named(path_of(descriptor, path), "REFUSED_FOLDER")))
-        return refused(EINVAL);
+        return refused(refuses("folder-flush") ? EINVAL : EOPNOTSUPP);
     return next(descriptor);
 }
 

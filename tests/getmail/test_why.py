@@ -52,12 +52,14 @@ class Sessions(unittest.TestCase):
         of_store, of_record = (f"getmail: u@{LOOPBACK}:{self.server.port}: {path}: its file system flushes no folders\n".encode()
                                for path in (folder, self.account.folder))
         with preload.library("refuse_call") as library:
-            for words, messages, torn, told in (((), TWO[:1], b"", b""), (("--why",), TWO, b"", of_store),
-                                                (("--why",), TWO, b"", b""), (("--why",), TWO, b"torn", of_record)):
+            kinds = ("folder-flush", "folder-flush-unsupported") * 2
+            for kind, (words, messages, torn, told) in zip(kinds, (
+                    ((), TWO[:1], b"", b""), (("--why",), TWO, b"", of_store),
+                    (("--why",), TWO, b"", b""), (("--why",), TWO, b"torn", of_record))):
                 self.server.messages = list(messages)
                 with open(self.account.record, "ab") as record:
                     record.write(torn)
-                run = self.session(*words, LD_PRELOAD=str(library), REFUSED_CALL="folder-flush")
+                run = self.session(*words, LD_PRELOAD=str(library), REFUSED_CALL=kind)
                 self.assertEqual(run, programs.Run(0, b"", told))
 
 
