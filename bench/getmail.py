@@ -9,7 +9,7 @@ file 1.3 times the largest message in addition.
 
 Then polls of 20,000 known messages, none of them new: known by the record alone, or also held in the Maildir. To be
 reached: 30 ms of processor time, and no faster growth than n log n from 5,000 on. And with 1,000,000 rows of other days in
-the record: 75 MiB.
+the record: 75 MiB. Words choose parts: fetches polls.
 """
 
 import filecmp
@@ -235,22 +235,31 @@ def measure_old_rows(folder):
     return memory <= MOST_OLD_MEMORY
 
 
+def measure_fetches(folder):
+    plain = folder / "fetch"
+    subprocess.run(["cc", "-O2", "-o", plain, Path(__file__).with_name("fetch.c")], check=True)
+    measure.print_head("messages", "`getmail`", "plain program", "processor time", "of the plain program's", "peak of memory")
+    return [measure_shape(folder, plain, store, *shape) for store in (MaildirStore, MboxrdStore) for shape in SHAPES]
+
+
+def measure_known(folder):
+    measure.print_head("known", "processor time", f"growth from {FEW:,}", "peak of memory")
+    reached = [measure_polls(folder, known, is_held)
+               for known, is_held in (("by the record alone", False), ("and held in the Maildir", True))]
+    return [*reached, measure_old_rows(folder)]
+
+
+PARTS = {"fetches": measure_fetches, "polls": measure_known}
+
+
 def main():
     print(f"getmail from popd, best of {TURNS}; to be reached: processor time {MOST_RATIO} of the plain program's, memory "
           f"{MOST_MEMORY // measure.MEBIBYTE} MiB, into an mboxrd file and {MOST_TIMES_MESSAGE} of a message, "
           f"a poll of {MANY:,} in {MOST_POLL * 1000:.0f} ms")
     with tempfile.TemporaryDirectory(prefix="getmail-", dir=".") as name:
-        folder = Path(name).resolve()
-        plain = folder / "fetch"
-        subprocess.run(["cc", "-O2", "-o", plain, Path(__file__).with_name("fetch.c")], check=True)
-        measure.print_head("messages", "`getmail`", "plain program", "processor time", "of the plain program's", "peak of memory")
-        reached = [measure_shape(folder, plain, store, *shape) for store in (MaildirStore, MboxrdStore) for shape in SHAPES]
-        print(f"processor time and memory: {measure.verdict(all(reached))}")
-        measure.print_head("known", "processor time", f"growth from {FEW:,}", "peak of memory")
-        reached = [measure_polls(folder, known, is_held)
-                   for known, is_held in (("by the record alone", False), ("and held in the Maildir", True))]
-        reached.append(measure_old_rows(folder))
-        print(f"polls: {', '.join(map(measure.verdict, reached))}")
+        for part in sys.argv[1:] or PARTS:
+            reached = PARTS[part](Path(name).resolve())
+            print(f"{part}: {', '.join(map(measure.verdict, reached))}; load {os.getloadavg()[0]:.1f}", flush=True)
 
 
 if __name__ == "__main__":

@@ -5,6 +5,9 @@ The packages of `tests` can be imported once this one is.
 
 import contextlib
 import os
+import re
+import shutil
+import subprocess
 import sys
 import time
 from dataclasses import dataclass
@@ -76,6 +79,17 @@ def cost_of(words, given=os.devnull, wait=wait_for):
     if os.waitstatus_to_exitcode(status) != 0:
         sys.exit(f"{' '.join(map(str, words))} over {given} ended with {os.waitstatus_to_exitcode(status)}")
     return Cost(seconds, usage.ru_utime + usage.ru_stime, memory)
+
+
+def can_count_instructions():
+    return shutil.which("valgrind") is not None
+
+
+def instructions(words, given=b"", **environment):
+    """How many instructions of its own, not of the system's, a run takes that ends well."""
+    run = subprocess.run(["valgrind", "--tool=callgrind", "--callgrind-out-file=/dev/null", *words], input=given, check=True,
+                         stdout=subprocess.DEVNULL, stderr=subprocess.PIPE, env={**os.environ, **environment})
+    return int(re.search(rb"Collected : (\d+)", run.stderr)[1])
 
 
 def print_row(*cells):

@@ -16,11 +16,13 @@ octets a message.
 Then fetches of 2,000, 20,000 and 100,000 messages of 400 octets and of one of 100 MB from `popd` into a Maildir in memory
 (the tmpfs at /dev/shm), where no disk's waits count. To be reached: at most 1.1 times mpop's processor time, 0.37 for the one
 of 100 MB, and for 100,000 1.2 times its memory. And the first poll after a fetch of 20,000 and of 100,000: at most 1.1 times
-its processor time, and its memory. And sessions that fetch one message of 20,000 and of 100,000 that are new: the growth of
-what comes before it is linear within a tenth.
+its processor time, and its memory. And sessions that fetch one message of 20,000 and of 100,000 that are new, in turns: the
+growth of what comes before it is linear within a tenth, by the processor time, and by the instructions if valgrind is
+installed.
 
 Each time is the least of its turns, and the first turn's stands beside it. Words choose parts: polls new record fetches
-first growth slow pipelining latency.
+first growth slow pipelining latency calls; `memory` is a fetch of 100,000, the first poll after it and a later one, once
+each, for their peaks alone.
 
 Then fetches without a mark: where each flush takes 5 ms, as on a slow disk (a library made here and preloaded waits in `fsync`
 and `fdatasync`; three flushes a message are the price of the promise); beside mpop as it comes, with pipelining, from dovecot;
@@ -30,6 +32,7 @@ held messages and of one message more that is fetched, and how many of them are 
 
 import contextlib
 import importlib.util
+import itertools
 import os
 import re
 import shutil
@@ -49,7 +52,8 @@ SPEC = importlib.util.spec_from_file_location("fetching", Path(__file__).with_na
 ours = importlib.util.module_from_spec(SPEC)
 SPEC.loader.exec_module(ours)
 
-TURNS = 5
+TURNS = 15
+TURNS_OF_FETCHES = 7
 TURNS_OF_MANY = 3
 MANY = 100_000
 POLLS = (20_000, 100_000)
@@ -232,24 +236,42 @@ def measure_first_poll(folder, count, service):
     return ratio <= MOST_FIRST and memory <= MOST_MEMORY
 
 
+def limited(folder, server):
+    """The words of a first run that fetches one message."""
+    words = ours.account_at(folder, server.port)
+    with open(folder / "account" / "getmailrc", "a") as rc:
+        rc.write("max_messages_per_session = 1\n")
+    return words
+
+
+def growth_of(few, many):
+    return many / few / (POLLS[1] / POLLS[0])
+
+
 def measure_growth(folder):
     """Sessions that fetch one message of those that are listed; answers whether the mark was reached."""
-    times = []
-    for count in POLLS:
-        server = Letters(count)
+    servers = [Letters(count) for count in POLLS]
+    costs = in_turns(*(lambda server=server: limited(folder, server) for server in servers))
+    instructions = [measure.instructions(limited(folder, server)) for server in servers if measure.can_count_instructions()]
+    for count, cost, taken in itertools.zip_longest(POLLS, costs, instructions):
+        measure.print_row(f"{count:,}", time_of(cost), f"{taken / count:,.0f}" if taken else "",
+                          f"{greatest_memory(cost) / measure.MEBIBYTE:.1f} MiB")
+    growths = [growth_of(*pair) for pair in (map(least, costs), instructions) if pair]
+    print(f"growth of a message's time from {POLLS[0]:,} to {POLLS[1]:,}, and of its instructions: "
+          f"{', '.join(f'{growth:.2f}' for growth in growths)}", flush=True)
+    return max(growths) <= MOST_GROWTH
 
-        def limited(server=server):
-            words = ours.account_at(folder, server.port)
-            with open(folder / "account" / "getmailrc", "a") as rc:
-                rc.write("max_messages_per_session = 1\n")
-            return words
 
-        costs = [measure.cost_of(limited(), wait=measure.watch) for _ in range(TURNS)]
-        times.append(least(costs))
-        measure.print_row(f"{count:,}", time_of(costs), f"{greatest_memory(costs) / measure.MEBIBYTE:.1f} MiB")
-    growth = times[1] / times[0] / (POLLS[1] / POLLS[0])
-    print(f"growth of a message's time from {POLLS[0]:,} to {POLLS[1]:,}: {growth:.2f}", flush=True)
-    return growth <= MOST_GROWTH
+def measure_memory(folder):
+    """The peaks of memory with many messages; answers whether the marks were reached."""
+    with fetchers(folder, MANY) as both:
+        words = [each() for each in both]
+        rows = [("fetch", MOST_FETCH_MEMORY), ("first poll", MOST_MEMORY), ("later poll", MOST_MEMORY)]
+        peaks = [[measure.cost_of(each, wait=measure.watch).memory for each in words] for _ in rows]
+    for (name, most), (own, theirs) in zip(rows, peaks):
+        measure.print_row(f"{name} of {MANY:,}", *(f"{peak / measure.MEBIBYTE:.1f} MiB" for peak in (own, theirs)),
+                          f"{own / theirs:.2f}", most)
+    return all(own <= most * theirs for (_, most), (own, theirs) in zip(rows, peaks))
 
 
 def measure_records(folder):
@@ -286,7 +308,7 @@ def measure_fetches(folder):
     reached = []
     for (count, octets), most in FETCHES.items():
         with fetchers(folder, count, octets) as both:
-            costs = in_turns(*both, TURNS if count < MANY else TURNS_OF_MANY)
+            costs = in_turns(*both, TURNS_OF_FETCHES if count < MANY else TURNS_OF_MANY)
         if any(len(os.listdir(maildir / "new")) != count for maildir in (folder / "account" / "mail", folder / "mpop")):
             sys.exit(f"{count}: not all was fetched")
         ratio, memory = print_costs(f"{count:,}" if octets < GREAT else f"{count} of {octets // 1_000_000} MB", *costs)
@@ -337,7 +359,7 @@ def measure_pipelining(folder):
     """Fetches beside mpop as it comes, which have no mark."""
     for count in (2_000, 20_000):
         with pipelining_server(folder, count) as server:
-            costs = in_turns(lambda: ours.account_at(folder, server.port), lambda: fresh_mpop(folder, server.port, PIPELINED))
+            costs = in_turns(lambda: ours.account_at(folder, server.port), lambda: fresh_mpop(folder, server.port, PIPELINED), TURNS_OF_FETCHES)
         print_costs(f"{count:,}", *costs)
 
 
@@ -362,6 +384,9 @@ def calls_of(folder, words):
 
 def count_calls(folder):
     """Prints the calls of a poll and of a message."""
+    if shutil.which("strace") is None:
+        print("strace is not installed")
+        return
     server = Letters(COUNTED)
     known_to_mpop(folder, server)
     polls = ours.account_knowing(folder, server, COUNTED, True), mpop_at(folder, server.port)
@@ -382,28 +407,28 @@ def parts(disk, memory):
         "record": (("record", "octets a message", "mpop's", "ratio"), lambda: measure_records(memory)),
         "fetches": (("fetch on tmpfs", *head), lambda: measure_fetches(memory)),
         "first": (("poll", *head), lambda: measure_first_polls(memory)),
-        "growth": (("listed, one fetched", "processor time (the first)", "peak of memory"), lambda: measure_growth(memory)),
+        "growth": (("listed, one fetched", "processor time (the first)", "instructions a message", "peak of memory"),
+                   lambda: measure_growth(memory)),
+        "memory": (("memory", "peak", "mpop's", "ratio", "mark"), lambda: measure_memory(memory)),
         "slow": (("fetch, 5 ms a flush", "by the clock", "mpop's", "ratio"), lambda: measure_slow_flushes(memory)),
         "pipelining": (("fetch beside mpop with pipelining", *head), lambda: measure_pipelining(memory)),
         "latency": (("fetch, a round trip", "by the clock", "mpop's", "ratio", "with pipelining", "ratio"), lambda: measure_latency(memory)),
+        "calls": (("session", "calls of the system", "flushes", "mpop's calls", "flushes"), lambda: count_calls(memory)),
     }
 
 
 def main():
     if shutil.which("mpop") is None:
         sys.exit("mpop is not installed")
-    print(f"getmail -q beside mpop -Q, best of {TURNS}, {TURNS_OF_MANY} for {MANY:,} fetched; load {os.getloadavg()[0]:.1f}")
+    print(f"getmail -q beside mpop -Q, best of {TURNS}, of {TURNS_OF_FETCHES} for fetches, {TURNS_OF_MANY} for {MANY:,} fetched")
     with tempfile.TemporaryDirectory(prefix="mpop-", dir=".") as name, tempfile.TemporaryDirectory(prefix="mpop-", dir="/dev/shm") as fast:
         known = parts(Path(name).resolve(), Path(fast).resolve())
         for part in sys.argv[1:] or known:
             names, measured = known[part]
             measure.print_head(*names)
             reached = measured()
-            if reached is not None:
-                print(f"{part}: {measure.verdict(reached)}")
-        if not sys.argv[1:] and shutil.which("strace"):
-            measure.print_head("session", "calls of the system", "flushes", "mpop's calls", "flushes")
-            count_calls(Path(fast).resolve())
+            verdict = "" if reached is None else f"{measure.verdict(reached)}; "
+            print(f"{part}: {verdict}load {os.getloadavg()[0]:.1f}", flush=True)
 
 
 if __name__ == "__main__":

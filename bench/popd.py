@@ -6,14 +6,16 @@ write replies made before. For both: messages and octets a second and their rati
 after the other; for `popd` the peak of memory too. To be reached: faster than that server on small messages, and
 at most 8 MiB of memory for messages of any size.
 
-Beside dovecot, if that is installed: logins, listings, TOP and RETR over the same files, and the memory of logins. With
-valgrind, if that is installed: how many instructions refused passwords take that differ from the right one in different
-places.
+Beside dovecot, if that is installed: logins, listings, TOP and RETR over the same files. Then logins to Maildirs of 20,000 and
+of 100,000 messages with names of 40 octets; to be reached: dovecot's memory, and a growth of the processor time that is linear
+within a tenth. With valgrind, if that is installed: the instructions of these, and how many refused passwords take that differ
+from the right one in different places.
+
+Words choose parts: small large visits logins greatest passwords.
 """
 
+import contextlib
 import os
-import re
-import shutil
 import socket
 import subprocess
 import sys
@@ -29,6 +31,8 @@ from harness.kernel import LOOPBACK
 
 TURNS = 9
 VISITS = 4
+ROUNDS = 3
+MEMORY = "/dev/shm" if kernel.is_tmpfs("/dev/shm") else None
 SECONDS = 60
 SETTLED_SECONDS = 4
 SECONDS_BETWEEN_LOGINS = 0.3
@@ -294,37 +298,59 @@ def log_in_and_list(server):
     return Login(taken, memory)
 
 
-def print_logins(name, server, logins):
-    """Prints the row of a server: its first login, the best of the later ones, and the greatest peak."""
-    costs = logins[0].processor, min(one.processor for one in logins[1:]), max(one.memory for one in logins)
-    measure.print_row(name, server, f"{costs[0] * 1e3:.0f} ms", f"{costs[1] * 1e3:.1f} ms", f"{costs[2] / measure.MEBIBYTE:.1f} MiB")
-    return costs
+def logins_of(server):
+    """The cost of the first login to a server that was just started, and those of later ones."""
+    with server:
+        first, *later = (log_in_and_list(server) for _ in range(VISITS))
+    return first, later
 
 
-def measure_logins(folder, name, count):
-    """Logins to `popd` and to dovecot over the same files: their processor times, and the peaks of memory; `popd`'s costs."""
-    maildir = make_maildir(folder, count, 400)
+def print_logins(name, server, rounds):
+    """Prints the row of a server: the least of its first logins and of the later ones, and both peaks."""
+    firsts, laters = [first for first, _ in rounds], [one for _, later in rounds for one in later]
+    times = [min(login.processor for login in logins) for logins in (firsts, laters)]
+    peaks = [max(login.memory for login in logins) for logins in (firsts, laters)]
+    measure.print_row(name, server, *(f"{one * 1e3:.1f} ms" for one in times),
+                      *(f"{peak / measure.MEBIBYTE:.1f} MiB" for peak in peaks))
+    return times, peaks
+
+
+def measure_logins(folders):
+    """Logins to `popd` over Maildirs of 20,000 and of 100,000 messages, in turns, and to dovecot: their processor times, the
+    growth of a message's from the one to the other, and the peaks of memory."""
+    maildirs = [make_maildir(folder, count, 400) for folder, count in zip(folders, LOGINS)]
     time.sleep(SETTLED_SECONDS)
-    with Popd(maildir) as ours:
-        our_logins = [log_in_and_list(ours) for _ in range(VISITS)]
-    measure.print_head("messages", "server", "first login", "later", "peak of memory")
-    mine = print_logins(name, "`popd`", our_logins)
-    if not dovecot.is_there():
-        return mine
-    with dovecot.Dovecot(folder, maildir) as theirs:
-        logins = [log_in_and_list(theirs) for _ in range(VISITS)]
-    first, later, memory = (a / b for a, b in zip(mine, print_logins("", "dovecot", logins)))
-    print(f"  {name}: of dovecot's processor time at the first login {first:.2f}, at later ones {later:.2f}, of its peak of "
-          f"memory {memory:.2f} ({measure.verdict(memory <= MOST_OF_MEMORY)})", flush=True)
-    return mine
-
-
-def measure_growth(folders):
-    """Logins to Maildirs of 20,000 and of 100,000 messages, and how the time of a message grows."""
-    costs = [measure_logins(folder, f"{count:,} of 400 octets", count) for folder, count in zip(folders, LOGINS)]
-    growths = [many / few / (LOGINS[1] / LOGINS[0]) for few, many in zip(*(cost[:2] for cost in costs))]
+    rounds = [[logins_of(Popd(maildir)) for maildir in maildirs] for _ in range(ROUNDS)]
+    if measure.can_count_instructions():
+        print_instructions(maildirs)
+    measure.print_head("messages", "server", "first login", "later", "peak of memory, first", "later")
+    costs = []
+    for folder, maildir, count, ours in zip(folders, maildirs, LOGINS, zip(*rounds)):
+        costs.append(print_logins(f"{count:,} of 400 octets", "`popd`", ours))
+        if dovecot.is_there():
+            compare_logins(costs[-1], print_logins("", "dovecot", [logins_of(dovecot.Dovecot(folder, maildir))]))
+    growths = [growth_of(*pair) for pair in zip(*(times for times, _ in costs))]
     print(f"  growth of a message's processor time from {LOGINS[0]:,} to {LOGINS[1]:,}: at the first login {growths[0]:.2f}, at "
           f"later ones {growths[1]:.2f} ({measure.verdict(max(growths) <= MOST_GROWTH)})", flush=True)
+
+
+def compare_logins(ours, theirs):
+    times, peaks = ([mine / yours for mine, yours in zip(*pair)] for pair in zip(ours, theirs))
+    print(f"  of dovecot's processor time at the first login {times[0]:.2f}, at later ones {times[1]:.2f}; of its peak of memory "
+          f"{peaks[0]:.2f} ({measure.verdict(peaks[0] <= MOST_OF_MEMORY)}), {peaks[1]:.2f} "
+          f"({measure.verdict(peaks[1] <= MOST_OF_MEMORY)})", flush=True)
+
+
+def growth_of(few, many):
+    return many / few / (LOGINS[1] / LOGINS[0])
+
+
+def print_instructions(maildirs):
+    """The instructions of a first login, for each message, and their growth."""
+    counts = [measure.instructions([measure.program("popd"), "u", maildir.parent / "password", maildir],
+                                   b"USER u\r\nPASS sesame\r\n") for maildir in maildirs]
+    print(f"  instructions of a first login, for each message: {', '.join(f'{taken / count:,.0f}' for taken, count in zip(counts, LOGINS))}; "
+          f"growth {growth_of(*counts):.2f} ({measure.verdict(growth_of(*counts) <= MOST_GROWTH)})", flush=True)
 
 
 def peak_for(maildir, command):
@@ -350,16 +376,13 @@ def measure_greatest(folder):
 
 def instructions(maildir, password):
     """How many instructions `popd` takes for a thousand logins with this password, which are refused."""
-    words = ["valgrind", "--tool=callgrind", "--callgrind-out-file=/dev/null", measure.program("popd"), "u",
-             str(maildir.parent / "password"), str(maildir)]
-    done = subprocess.run(words, input=b"USER u\r\nPASS %s\r\n" % password * 1_000, capture_output=True, check=True,
-                          timeout=SECONDS)
-    return int(re.search(rb"Collected : (\d+)", done.stderr)[1])
+    words = [measure.program("popd"), "u", maildir.parent / "password", maildir]
+    return measure.instructions(words, b"USER u\r\nPASS %s\r\n" % password * 1_000)
 
 
 def measure_passwords(folder):
     """Passwords of 500 octets, of which one is wrong: the first, one in the middle, the last."""
-    if shutil.which("valgrind") is None:
+    if not measure.can_count_instructions():
         print("  valgrind is not installed: no instructions are counted")
         return
     maildir = make_maildir(folder, 0, 0)
@@ -371,25 +394,35 @@ def measure_passwords(folder):
           f"{spread:.4%} apart ({measure.verdict(spread < 0.001)})", flush=True)
 
 
+def measure_visits(*folders):
+    print(f"beside dovecot, best of {VISITS - 1} visits after the first; to be reached: its time at PASS and STAT, twice "
+          "its time at TOP, 8 MiB of memory for a message of 100 MB")
+    for folder, shape in zip(folders, (("2,000 of 2 KB", 2_000, 2_000), ("20,000 of 2 KB", 20_000, 2_000), ("20 of 5 MB", 20, 5_000_000))):
+        measure_beside_dovecot(folder, *shape)
+
+
+# What can be measured, by its name: in how many folders, and what measures it.
+PARTS = {
+    "small": (1, measure_small),
+    "large": (1, measure_large),
+    "visits": (3, measure_visits),
+    "logins": (2, lambda *folders: measure_logins(folders)),
+    "greatest": (1, measure_greatest),
+    "passwords": (1, measure_passwords),
+}
+
+
 def main():
     print(f"popd --listen, one command at a time, best of {TURNS}; to be reached: ratio above 1 on small messages, "
           "8 MiB of memory")
-    with tempfile.TemporaryDirectory() as folder:
-        measure_small(folder)
-        measure_large(folder)
-    print(f"beside dovecot, best of {VISITS - 1} visits after the first; to be reached: its time at PASS and STAT, twice "
-          "its time at TOP, 8 MiB of memory for a message of 100 MB")
     if not dovecot.is_there():
         print("  dovecot is not installed, or this is not root: popd alone")
-    for name, count, octets in (("2,000 of 2 KB", 2_000, 2_000), ("20,000 of 2 KB", 20_000, 2_000), ("20 of 5 MB", 20, 5_000_000)):
-        with tempfile.TemporaryDirectory() as folder:
-            measure_beside_dovecot(folder, name, count, octets)
-    with tempfile.TemporaryDirectory() as few, tempfile.TemporaryDirectory() as many:
-        measure_growth((few, many))
-    with tempfile.TemporaryDirectory() as folder:
-        measure_greatest(folder)
-    with tempfile.TemporaryDirectory() as folder:
-        measure_passwords(folder)
+    for part in sys.argv[1:] or PARTS:
+        count, measured = PARTS[part]
+        with contextlib.ExitStack() as stack:
+            # In memory, if it can be: many files take no time of a disk.
+            measured(*(stack.enter_context(tempfile.TemporaryDirectory(dir=MEMORY)) for _ in range(count)))
+        print(f"{part}: load {os.getloadavg()[0]:.1f}", flush=True)
 
 
 if __name__ == "__main__":

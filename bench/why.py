@@ -8,10 +8,6 @@ reached: at most 1.01 with `--why`, which counts nothing of a message.
 """
 
 import argparse
-import re
-import shutil
-import subprocess
-import tempfile
 from pathlib import Path
 
 import measure
@@ -26,13 +22,11 @@ MOST_RATIO = 1.01
 
 def instructions_of(kind, *words):
     """The instructions of one fetch."""
-    with tempfile.TemporaryDirectory() as folder, Server([(b"a", TEXT)]) as server, kind(server.port) as account:
+    with Server([(b"a", TEXT)]) as server, kind(server.port) as account:
         thread = server.begin_session()
-        run = subprocess.run(["valgrind", "--tool=callgrind", f"--callgrind-out-file={Path(folder) / 'counts'}",
-                              programs.path_of("getmail"), "-q", *words], check=True, capture_output=True,
-                             env=programs.environment(HOME=str(account.home)))
+        count = measure.instructions([programs.path_of("getmail"), "-q", *words], HOME=str(account.home))
         thread.join(programs.SECONDS)
-    return int(re.search(rb"Collected : (\d+)", run.stderr)[1])
+    return count
 
 
 def main():
@@ -40,7 +34,7 @@ def main():
     parser.add_argument("--program", type=Path, help="the getmail to be measured; else that of bin/")
     words = parser.parse_args()
     programs.place("getmail", words.program or measure.program("getmail"))
-    if not shutil.which("valgrind"):
+    if not measure.can_count_instructions():
         raise SystemExit("bench/why.py needs valgrind")
     print("  store    instructions for an octet  with --why  with --trace")
     for name, kind in (("Maildir", Account), ("mboxrd", MboxAccount)):
