@@ -7,7 +7,7 @@
    the word `refused` or `failed` or `done`, and the paths, with tabs between. A write to a regular file takes the first
    half of its bytes only, so that the program has to write the rest itself. Of the calls of fsync, link and rename the
    second, here, answers -1 with EIO and does nothing; without WATCH_REFUSED none is refused. With WATCH_NO_LINKS each
-   call of link fails, and isn't counted, as on a file system that has no second names. */
+   call of link fails with the error of this number, and isn't counted, as on a file system that has no second names. */
 
 #include "preloaded.h"
 
@@ -74,10 +74,11 @@ int rename(const char *from, const char *to)
 int link(const char *from, const char *to)
 {
     NEXT(link);
+    int fault = number_in("WATCH_NO_LINKS", 0);
 
-    if (!getenv("WATCH_NO_LINKS"))
+    if (!fault)
         return named("link", next, from, to);
-    return answered("link", 0, refused(EPERM), from, to);
+    return answered("link", 0, refused(fault), from, to);
 }
 
 int unlink(const char *path)

@@ -4,6 +4,7 @@ The program delivers texts of 2,048 bytes. Its system calls are recorded, each o
 of fsync, link or rename is refused in turn.
 """
 
+import errno
 import os
 import stat
 import threading
@@ -57,7 +58,11 @@ class Deliveries(unittest.TestCase):
         self.check_deliveries(True)
 
     def test_on_a_file_system_without_second_names(self):
-        self.check_deliveries(False, WATCH_NO_LINKS="1")
+        """Or where the two names would be on different ones, or the file has too many."""
+        for fault in (errno.EPERM, errno.ENOSYS, errno.EOPNOTSUPP, errno.EXDEV, errno.EMLINK):
+            with self.subTest(fault=fault):
+                self.setUp()
+                self.check_deliveries(False, WATCH_NO_LINKS=str(fault))
 
     def test_each_refused_call(self):
         """The calls of two deliveries are fsync of the file, link, fsync of the folder, and the same again.
@@ -131,7 +136,7 @@ class Deliveries(unittest.TestCase):
         taken = self.maildir / "new" / name_of(1)
         for make in (lambda: taken.write_bytes(b"other"), lambda: taken.symlink_to("nowhere"), lambda: os.mkfifo(taken),
                      lambda: taken.symlink_to(other), lambda: os.link(other, taken)):
-            for changes in ({}, {"WATCH_NO_LINKS": "1"}):
+            for changes in ({}, {"WATCH_NO_LINKS": str(errno.EPERM)}):
                 with self.subTest(changes=changes):
                     make()
                     was = taken.lstat()
