@@ -180,7 +180,7 @@ impl<H: BuildHasher> RowMap<H> {
                 first_seen,
                 delivered,
             };
-            write_line(alloc, &mut lines, uid, state)?;
+            write_line(&mut lines, uid, state)?;
             changes += 1;
         }
         group(alloc, changes, lines)

@@ -19,6 +19,7 @@ ghost use Rattle.fetch_record.specs.{
 
 use crate::field::{id_before, number_before};
 use crate::row_map::State;
+use itoa::Buffer;
 use mail_terms::MESSAGE_LIMIT;
 use std::alloc::{AllocError, Global};
 
@@ -144,18 +145,14 @@ pub(crate) fn read_line(bytes: &[u8]) -> Option<(Line<'_>, &[u8])>
 }
 
 /// Adds a row's line.
-pub(crate) fn write_line(
-    alloc: Global,
-    bytes: &mut Vec<u8>,
-    uid: &[u8],
-    state: State,
-) -> Result<(), AllocError>
+pub(crate) fn write_line(bytes: &mut Vec<u8>, uid: &[u8], state: State) -> Result<(), AllocError>
     ensures { OnOk result (bytes.new.items ≡ bytes.old.items ++ record_row_line (row_from uid.now state)) }
 {
-    let number = format!(in alloc; " {} ", state.first_seen)?;
-    let end = if state.delivered { b"1\n" } else { b"0\n" };
+    let mut number = Buffer::new();
+    let end = if state.delivered { b" 1\n" } else { b" 0\n" };
     bytes.extend_from_slice(uid)?;
-    bytes.extend_from_slice(number.as_bytes())?;
+    bytes.push(b' ')?;
+    bytes.extend_from_slice(number.format(state.first_seen).as_bytes())?;
     bytes.extend_from_slice(end)
 }
 
@@ -175,7 +172,7 @@ pub(crate) fn row_group(alloc: Global, uid: &[u8], state: State) -> Result<Vec<u
     ensures { IfOk result (λ bytes. bytes.items ≡ written (row_from uid.now state ∷ [])) }
 {
     let mut line = Vec::new(alloc);
-    write_line(alloc, &mut line, uid, state)?;
+    write_line(&mut line, uid, state)?;
     group(alloc, 1, line)
 }
 

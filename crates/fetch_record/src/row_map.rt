@@ -216,7 +216,7 @@ impl<H: BuildHasher> RowMap<H> {
         bytes.reserve(self.likely_octets())?;
         for place in 0..self.len() {
             let (uid, state) = self.at(place);
-            write_line(self.alloc, &mut bytes, uid, state)?;
+            write_line(&mut bytes, uid, state)?;
         }
         Ok(bytes)
     }
