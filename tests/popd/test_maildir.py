@@ -480,6 +480,16 @@ class Listings(unittest.TestCase):
                     self.assertEqual(client.log_in(), b"-ERR maildrop unavailable\r\n")
             self.assertEqual(service.finish(), (0, f'popd: warning: cannot read {path}\n'.encode() * 2))
 
+    def test_a_folder_that_cannot_be_listed_is_named(self):
+        """By its path, and not by that of what the server has open."""
+        for part in ("new", "cur"):
+            folder = self.maildir.folder / part
+            with self.subTest(part), self.meddled(refused=f"{folder}/") as service:
+                for _ in range(2):
+                    with service.client() as client:
+                        self.assertEqual(client.log_in(), b"-ERR maildrop unavailable\r\n")
+                self.assertEqual(service.finish(), (0, f'popd: warning: cannot read {folder}\n'.encode() * 2))
+
     def test_a_file_that_was_refused_earlier_is_not_named(self):
         """The second listing is refused for want of random octets, which is no fault of any file."""
         libraries = [self.enterContext(preload.library(name)) for name in ("meddle", "refuse_call")]
