@@ -142,6 +142,16 @@ class OddFiles(unittest.TestCase):
     def check_all_came(self):
         self.assertEqual((self.account.held(), self.server.messages), (LETTERS, []))
 
+    def test_names_that_are_almost_those_of_messages(self):
+        """A digit less or more, or one in upper case: nothing is told of them, and each message comes."""
+        front, _, digits = self.account.name(*LETTERS[0]).partition(",")[0].partition(".")
+        for part in ("new", "cur"):
+            for odd in (digits[:-1], digits[:-2], digits + "6", digits + "61", digits.upper()):
+                os.mkfifo(self.account.maildir / part / f"{front}.{odd}")
+        self.give_away()
+        self.assertEqual(self.run_getmail("-q"), programs.SILENT)
+        self.assertEqual(self.fetched(), ["RETR 1"])
+
     def test_each_kind(self):
         """Once it is removed, its message comes."""
         for part, marks in (("new", ""), ("cur", ":2,S")):
