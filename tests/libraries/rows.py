@@ -75,7 +75,7 @@ class Sessions:
 
 HEADER = "getmail-seen 2/"
 RECORD = f"{HEADER}a 5 0/b 6 1/"
-MERGED = f"{HEADER}a 5 1/b 6 1/c 9 0/"
+MERGED = f"{HEADER}a 5 1/b 6 1/c-that-is-not-short 9 0/"
 DELIVERED = ("one,S=2", "x/", "none begun")
 
 ROWS = {

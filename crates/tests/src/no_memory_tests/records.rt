@@ -32,6 +32,9 @@ fn read_row(rt: HostRuntime) {
     read(&rt);
 }
 
+/// A new id, too long to be kept without memory of its own.
+const NEW: &str = "c-that-is-not-short";
+
 /// Merges three messages, the first and the last of which are held; returns whether it did.
 fn merge(rt: &HostRuntime, record: &mut Record, listing: &Listing) -> bool {
     let held = [true, false, true];
@@ -51,7 +54,7 @@ fn merge(rt: &HostRuntime, record: &mut Record, listing: &Listing) -> bool {
 
 #[test]
 fn merge_row(rt: HostRuntime) -> Result<(), Fail> {
-    let listing = listing_of(rt.alloc(), &[("b", 1), ("c", 1), ("a", 1)])?;
+    let listing = listing_of(rt.alloc(), &[("b", 1), (NEW, 1), ("a", 1)])?;
     let mut record = read_record(rt.alloc(), ROWS)?;
     tell_record(&rt, &record);
     if !merge(&rt, &mut record, &listing) {
