@@ -43,6 +43,12 @@ pub struct Errand<'a> {
     pub pretends: bool,
 }
 
+/// What a run has once it is connected: the link, and a hasher with keys of its own for the ids of the record.
+pub struct Connected<W, H> {
+    pub wire: W,
+    pub hasher: H,
+}
+
 /// What a run leaves, and how it came out.
 #[derive(Drop)]
 struct RunEnd<D, F> {
@@ -255,7 +261,7 @@ pub fn fetch_at<'a, R, M, E, W, H, O>(
     rt: &R,
     devices: &M,
     errand: Errand<'a>,
-    link: (W, H),
+    link: Connected<W, H>,
     out: &mut Output<O>,
     mut errors: Errors<'_, E>,
 ) -> u8
@@ -271,10 +277,10 @@ where
     ensures fetches { (time : Option SystemTime) × (told : Told)
         × (fetched : FetchesAt W.Wire M.Maildir.MaildirDisk M.File.FlatFile
         (M.made_store devices.now) (M.made_record devices.now) (M.showed devices.now)
-        errand.entry.settings errand.entry.paths.now errand.entry.pretends time link.0 told)
+        errand.entry.settings errand.entry.paths.now errand.entry.pretends time link.wire told)
         × TellsOf O.contents E.contents errand.entry.settings errand.entry.paths.now
         (IsPlanOf W.Wire M.Maildir.MaildirDisk M.File.FlatFile (second_of time)
-        (holding_of errand.entry.settings fetched.store fetched.seen_file) link.0 fetched.left fetched.wire')
+        (holding_of errand.entry.settings fetched.store fetched.seen_file) link.wire fetched.left fetched.wire')
         told out.old errors.entry result out.new }
 {
     let Errand {
@@ -282,7 +288,7 @@ where
         paths,
         pretends,
     } = errand;
-    let (wire, hasher) = link;
+    let Connected { wire, hasher } = link;
     let alloc = rt.alloc();
     let mut wire = shown(alloc, wire, &settings, &errors);
     let destination = paths.destination.as_str();
