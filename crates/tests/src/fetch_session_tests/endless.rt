@@ -14,6 +14,10 @@ fn run(account: &mut Fred, wire: &mut EndlessWire) -> Outcome {
     session(account, wire, 0).outcome
 }
 
+/// How often the pattern stands in what a link repeats, of which one read gives at most the rest: with a few octets at a
+/// time a text of the greatest length takes a minute on a busy machine.
+const TIMES: usize = 1_000;
+
 /// A session over a link that gives `front` and then `pattern` for ever is cut for this fault.
 fn expect(
     rt: &(impl Abort + AllocGlobal),
@@ -26,7 +30,7 @@ fn expect(
 {
     let alloc = rt.alloc();
     let front = Vec::from_slice(alloc, front)?;
-    let mut wire = EndlessWire::new(alloc, front, Vec::from_slice(alloc, pattern)?);
+    let mut wire = EndlessWire::new(alloc, front, pattern.repeat(alloc, TIMES)?);
     assert_eq!(rt; run(account, &mut wire), Outcome::Cut(fault));
     Ok(())
 }
