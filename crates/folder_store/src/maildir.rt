@@ -10,9 +10,9 @@ ghost use Rattle.folder_store.specs.{
 
 use crate::durable_names::{put_durably, told_names, told_names_of};
 use crate::file_folder::NewFile;
-use crate::host::HostNewFile;
-use crate::host_folders::HostFolders;
+use crate::host_folders::{CallsFolders, HostFolders};
 use crate::mail_folders::MailFolders;
+use crate::new_file::HostNewFile;
 use crate::process_mark::ProcessMark;
 use crate::tally::tally;
 use mail_store::{AccountId, Asked, Folder, MaildirDisk, StoreFault, admit, refuse};
@@ -81,7 +81,7 @@ impl<'a, R: Files + Clock + AllocGlobal + Clone + Drop> HostMaildir<'a, R> {
         ensures in_new { AreInMaildir result.folders.new_folder.host.paths path.now (codes "new") }
         ensures in_cur { AreInMaildir result.folders.cur_folder.host.paths path.now (codes "cur") }
     {
-        FolderMaildir::over(system.alloc(), HostFolders::of_maildir(system, path, mark))
+        FolderMaildir::over(system.alloc(), CallsFolders::of_maildir(system, path, mark))
     }
 
     /// Removes from `tmp` the files of an account that killed runs left behind: those that weren't

@@ -1,12 +1,10 @@
-//! What the devices of the file system share: making a file, flushing a folder, and removing what
-//! killed runs left behind.
+//! What the devices of the file system share: the parts of a path, and removing what killed runs left behind.
 
 ghost use Rattle.folder_store.specs.HostPaths.{ArePartsOf};
 
 use crate::process_mark::is_marked;
-use std::fs::{Metadata, OpenFile, OpenOptions};
+use std::fs::{Metadata, OpenFile};
 use std::io::ErrorKind;
-use std::os::unix::fs::OpenOptionsExt;
 use std::path::PathBuf;
 use std::rt::Files;
 use std::time::{Clock, SystemTime};
@@ -19,17 +17,6 @@ const LEFT_BEHIND_SECONDS: u64 = 3_600;
 
 /// How many links the system follows in a path, at most.
 const MOST_LINKS: u32 = 40;
-
-/// Makes an empty file; fails if there is one. Its owner alone can read and write it (mode 0600).
-pub fn make_file<'a, R: Files + AllocGlobal>(
-    system: &System<'a, R>,
-    path: &str,
-) -> Result<Noted<'a, R::File>, Denial> {
-    system.open_with(
-        OpenOptions::new().write(true).create_new(true).mode(0o600),
-        path,
-    )
-}
 
 /// Flushes the names of a folder to the disk. False if the system flushes no folders, which is no
 /// fault.
