@@ -116,6 +116,10 @@ Writes old file bytes (Ok n) new =
 Writes old file bytes (Err d) new = (WasInterrupted d → new ≡ old) × ((b : Blob) → Leads old file b
     → (new ≡ old) ⊎ ((front rest : List ℕ) × (bytes ≡ front ++ rest) × (new ≡ with_file old file.path (appended b front))))
 
+-- the open file has at least so many bytes
+abbrev pub IsWithin : Tree → Opened → ℕ → Type 0
+IsWithin t file len = (b : Blob) → Leads t file b → len ≤ length b.content
+
 -- ftruncate(2) to at most the size of the file; a refused call did that, or nothing
 abbrev pub Cuts : {T : Type 0} → Tree → Opened → ℕ → Result T Denial → Tree → Type 0
 Cuts old file len (Ok done) new = (b : Blob) → Leads old file b → new ≡ with_file old file.path (cut b len)

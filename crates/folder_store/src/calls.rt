@@ -74,7 +74,7 @@ pub trait OpenHandle {
 /// A file system, as one device asks it, each call of which may be refused.
 pub trait FileCalls {
     ghost use Rattle.std.specs.Prelude.{◌≡◌, ◌<◌, ◌≤◌, IfOk, length};
-    ghost use Rattle.folder_store.specs.Calls.{Creates, Cuts, Opens, Reads, Renames, Seeks, Stats, StatsOpened, Syncs};
+    ghost use Rattle.folder_store.specs.Calls.{Creates, Cuts, IsWithin, Opens, Reads, Renames, Seeks, Stats, StatsOpened, Syncs};
     ghost use Rattle.folder_store.specs.Calls.{SyncsNames, Tree, Writes};
 
     type Made: MadeHandle;
@@ -145,6 +145,7 @@ pub trait FileCalls {
 
     /// ftruncate(2), to at most what there is.
     fn ftruncate(&mut self, file: &Self::File, len: u64) -> Result<(), Denial>
+        requires { sound self.old → IsWithin (tree self.old) (Self.File.opened file.now) len }
         ensures { sound self.new → sound self.old
             × Cuts (tree self.old) (Self.File.opened file.now) len result (tree self.new) };
 

@@ -432,8 +432,7 @@ pub fn flush_names<C: FileCalls>(
     let names = names_of(calls, paths, handles)?;
     let is_flushed = flush_folder(calls, &names.folder)?;
     if !is_flushed {
-        let path = paths.folder_path()?;
-        handles.note_unflushed(Some(path));
+        handles.note_unflushed(Some(paths.folder_path()?));
     }
     handles.keep_names(names);
     Ok(is_flushed)

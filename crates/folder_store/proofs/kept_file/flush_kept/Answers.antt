@@ -34,3 +34,9 @@ returns-in-Some-clause-kept g c =
     (g.C.File.OpenHandle.opened c.in-Some.changed.file) first
     (syncs_change _ _ _ _ c.flush_watched-answer.result first done.1) refl))
     c.keep_flushed.ensures.0
+
+pub returns-in-None-clause-kept : goal.returns-in-None-clause-kept
+returns-in-None-clause-kept g c = keeps_none g.C.File.OpenHandle.opened (folder_of c.args.paths.now) _ _ (g.C.FileCalls.tree c.args.calls.now)
+    (g.C.FileCalls.tree c.flush_anew.new.calls) c.args.handles.now c.flush_anew.new.handles c.requires
+    (λ s. (c.flush_anew.ensures.flushes s).0) (c.flush_anew.ensures.others.0 ∙ c.take_changed.ensures.taken.0)
+    (c.flush_anew.ensures.others.1 ∙ c.take_changed.ensures.taken.1)
