@@ -77,7 +77,7 @@ pub trait FileCalls {
     ghost use Rattle.folder_store.specs.Calls.{Creates, Cuts, IsWithin, Opens, Reads, Renames, Seeks, Stats, StatsOpened, Syncs};
     ghost use Rattle.folder_store.specs.Calls.{SyncsNames, Tree, Writes};
 
-    type Made: MadeHandle;
+    type Made: MadeHandle + Drop;
 
     type File: OpenHandle + Drop;
 

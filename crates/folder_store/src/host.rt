@@ -198,15 +198,22 @@ impl<'a, R: Files + AllocGlobal> CallsFolder<'a, HostCalls<'a, R>> {
     // Opens a regular file, or one that a link leads to, if the name is still there. It is refused if the name
     // stands for anything else.
     fn open_if_there(&mut self, name: &str) -> Result<Option<Noted<'a, R::File>>, Denial> {
-        match open_found(&mut self.calls, &self.paths, name, Access::Read) {
-            Ok(Some(file)) if !file.at(file.metadata())?.is_dir() => Ok(Some(file)),
-            Ok(_) => Err(self.paths.refusal(name, IRREGULAR)),
-            Err(fault) if fault.kind() == ErrorKind::NotFound => {
+        let found = match open_found(&mut self.calls, &self.paths, name, Access::Read) {
+            Ok(found) => found,
+            Err(fault) => {
+                if fault.kind() != ErrorKind::NotFound {
+                    return Err(fault);
+                }
                 self.check_gone(name)?;
-                Ok(None)
+                return Ok(None);
             }
-            Err(fault) => Err(fault),
+        };
+        if let Some(file) = found {
+            if !file.at(file.metadata())?.is_dir() {
+                return Ok(Some(file));
+            }
         }
+        Err(self.paths.refusal(name, IRREGULAR))
     }
 
     // Flushes the bytes of such a file, and says whether the name is still there; None if it can't be opened. A file
@@ -324,10 +331,7 @@ impl<'a, C: FileCalls> FolderState for CallsFolder<'a, C> {
     ghost sound = { λ f. C.sound f.calls };
 }
 
-impl<'a, C: FileCalls + Drop> FileFolder for CallsFolder<'a, C>
-where
-    C::Made: Drop,
-{
+impl<'a, C: FileCalls + Drop> FileFolder for CallsFolder<'a, C> {
     type File = CallsNewFile<'a, C::Made>;
 
     fn make(&mut self, name: &str) -> Result<CallsNewFile<'a, C::Made>, StoreFault> {
