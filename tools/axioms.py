@@ -76,8 +76,8 @@ UNCOVERED = """\
 
 BELOW = Part("The other traits", """\
 9. The traits of which 1 assumes clauses, beside those in docs/STATEMENT.txt: of single calls of the system, over which
-   the real files are made, of the folders over which the real Maildir is, and of a server's maildrop. Each name that docs/STATEMENT.txt doesn't have is explained before it
-   is used.""",
+   the real files are made, of the folders over which the real Maildir is, and of a server's maildrop. Each name that
+   docs/STATEMENT.txt doesn't have is explained before it is used.""",
              traits=("folder_store:MadeHandle", "folder_store:OpenHandle", "folder_store:FileCalls",
                      "folder_store:NewFile", "folder_store:MailFolders", "pop3_server:Maildrop"))
 
