@@ -74,8 +74,8 @@ pub trait OpenHandle {
 /// A file system, as one device asks it, each call of which may be refused.
 pub trait FileCalls {
     ghost use Rattle.std.specs.Prelude.{◌≡◌, ◌<◌, ◌≤◌, IfOk, length};
-    ghost use Rattle.folder_store.specs.Calls.{Creates, Cuts, IsWithin, Opens, Reads, Renames, Seeks, Stats, StatsOpened, Syncs};
-    ghost use Rattle.folder_store.specs.Calls.{SyncsNames, Tree, Writes};
+    ghost use Rattle.folder_store.specs.Calls.{Creates, Cuts, IsWithin, Opens, Reads, Renames, Seeks, Stats};
+    ghost use Rattle.folder_store.specs.Calls.{StatsOpened, Syncs, SyncsNames, Tree, Writes};
 
     type Made: MadeHandle + Drop;
 
@@ -110,8 +110,8 @@ pub trait FileCalls {
     /// Whether lstat(2) says that the path names a link.
     fn is_link(&self, path: &str) -> bool;
 
-    /// lstat(2) and readlink(2) of a path and of what it leads to by links, and fsync(2) of the folders that hold that: the
-    /// path of one that the system doesn't flush.
+    /// lstat(2) and readlink(2) of a path and of what it leads to by links, and fsync(2) of the folders that hold that:
+    /// the path of one that the system doesn't flush.
     fn flush_targets(&self, path: &str) -> Result<Option<String>, Denial>;
 
     /// open(2) of what is there.
