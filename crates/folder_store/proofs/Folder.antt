@@ -1,6 +1,7 @@
 -- What the calls of a folder do, from what is done to the paths in it.
 use Rattle.std.proofs.{
-  Common.{◌≡◌, ◌⊎◌, ℕ, refl, List, [], ◌∷◌, ◌++◌, sym, ap, ◌∙◌, Bool, true, Option, Some, None, option_map, Result, Ok, Err, inl, inr, ⊎_elim},
+  Common.{◌≡◌, ◌⊎◌, ℕ, refl, List, [], ◌∷◌, ◌++◌, sym, ap, ◌∙◌, Bool, true, Option, Some, None, option_map, Result, Ok, Err, inl, inr},
+  Common.{⊎_elim},
 }
 use Rattle.std.specs.{Prelude.{OnOk, Vec}, IoError.{error_kind}}
 use Rattle.system_calls.specs.declared.refusal.Denial.{Denial}
@@ -9,8 +10,9 @@ use Rattle.mail_store.specs.{
   Durable.{Blob, content_in},
 }
 use Rattle.folder_store.specs.{
-  FileFolder.{Directory, MadeFile, Older, AltersInPart, FlushesNames, Makes, MeasuresFile, PutsFile, ReadsFile, ReadsPiece, TellsFileSize, content_at, find, names_flushed, put_in},
-  Calls.{Creates, FlushesFolder, IsAbsent, Renames, Tree, answered, fault_of, names_synced},
+  FileFolder.{Directory, MadeFile, Older, AltersInPart, FlushesNames, Makes, MeasuresFile, PutsFile, ReadsFile, ReadsPiece},
+  FileFolder.{TellsFileSize, content_at, find, names_flushed, put_in},
+  Calls.{Creates, FlushesFolder, IsAbsent, Renames, Tree, answered, device_fault, names_synced},
   Under.{after, directory_under, front_of, older_entry_under, older_under, outside, outside_entry, under},
 }
 use Rattle.folder_store.proofs.{Refusing.{missing_absent}, Under.{alters_under, find_under, put_under}}
@@ -30,7 +32,8 @@ pub measures_under : (front name : List ℕ) (d : Directory) (r : Result Edges S
 measures_under front name d (Ok edges) is = ((is.0.0, sym (content_under front name d) ∙ is.0.1, is.0.2), refl)
 measures_under front name d (Err fault) is = (refl, λ gone. sym (content_under front name d) ∙ is.1 gone)
 
-pub pieces_under : (front name : List ℕ) (d : Directory) (start : ℕ) (r : Result ℕ StoreFault) (buf : List ℕ) → ReadsPiece d (front ++ name) start r buf d
+pub pieces_under : (front name : List ℕ) (d : Directory) (start : ℕ) (r : Result ℕ StoreFault) (buf : List ℕ)
+    → ReadsPiece d (front ++ name) start r buf d
     → ReadsPiece (directory_under front d) name start r buf (directory_under front d)
 pieces_under front name d start (Ok n) buf is = ((is.0.0, sym (content_under front name d) ∙ is.0.1, is.0.2, is.0.3), refl)
 pieces_under front name d start (Err fault) buf is = (refl, λ gone. sym (content_under front name d) ∙ is.1 gone)
@@ -49,7 +52,8 @@ part_under Done Part front name old new (Ok done) is = alters_under front name o
 part_under Done Part front name old new (Err fault) is =
     ⊎_elim (λ same. inl (ap (directory_under front) same)) (λ part. inr (alters_under front name old new part)) is
 
-pub puts_under : {T : Type 0} → (front name : List ℕ) (old new : Tree) (file : MadeFile) (r : Result T Denial) → Renames old file (front ++ name) r new
+pub puts_under : {T : Type 0} → (front name : List ℕ) (old new : Tree) (file : MadeFile) (r : Result T Denial)
+    → Renames old file (front ++ name) r new
     → PutsFile (directory_under front old.directory) file name (answered r) (directory_under front new.directory)
 puts_under front name old new file (Ok done) is =
     ap (λ (t : Tree). directory_under front t.directory) is ∙ put_under front name file old.directory

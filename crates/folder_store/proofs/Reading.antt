@@ -7,27 +7,30 @@ use Rattle.std.proofs.lemmas.List.{take-append-le}
 use Rattle.std.proofs.lemmas.Slice.{take-put_mid_below}
 use borrow.Rule.Slice.PartMut.{mid_of, put_mid, post_of, same_len_mid}
 use Rattle.mail_store.specs.{Durable.{Blob}, FlatFile.{edges_of, piece_at}}
-use Rattle.folder_store.specs.{Calls.{IsFilled, IsRead, Leads, Opened, Tree, bytes_read}, FileFolder.{find}}
+use Rattle.folder_store.specs.{Calls.{IsFilled, IsRead, StillLeads, OpenPath, Tree, bytes_read}, FileFolder.{find}}
 
 -- it stays the same file, wherever the next read begins
-pub leads_at : (t u : Tree) (file now : Opened) (p : ℕ) (b : Blob) → u ≡ t → now ≡ record file { place = p } → Leads t file b → Leads u now b
+pub leads_at : (t u : Tree) (file now : OpenPath) (p : ℕ) (b : Blob) → u ≡ t → now ≡ record file { place = p } → StillLeads t file b
+    → StillLeads u now b
 leads_at t u file now p b same at leads = record {
-  turn = ap (λ (o : Opened). o.turn) at ∙ leads.turn ∙ ap (λ (v : Tree). v.turn) (sym same);
-  there = ap (λ (o : Opened). find o.path u.directory.entries) at
+  turn = ap (λ (o : OpenPath). o.turn) at ∙ leads.turn ∙ ap (λ (v : Tree). v.turn) (sym same);
+  there = ap (λ (o : OpenPath). find o.path u.directory.entries) at
       ∙ ap (λ (v : Tree). find file.path v.directory.entries) same ∙ leads.there;
 }
 
-pub leads_on : (t u : Tree) (file now : Opened) (n : ℕ) (b : Blob) → u ≡ t → now ≡ record file { place = file.place + n } → Leads t file b
-    → Leads u now b
+pub leads_on : (t u : Tree) (file now : OpenPath) (n : ℕ) (b : Blob) → u ≡ t → now ≡ record file { place = file.place + n }
+    → StillLeads t file b
+    → StillLeads u now b
 leads_on t u file now n b = leads_at t u file now (file.place + n) b
 
-moved_on : (file now later : Opened) (m n : ℕ) → now ≡ record file { place = file.place + m } → later ≡ record now { place = now.place + n }
+moved_on : (file now later : OpenPath) (m n : ℕ) → now ≡ record file { place = file.place + m }
+    → later ≡ record now { place = now.place + n }
     → later ≡ record file { place = file.place + (m + n) }
-moved_on file now later m n at on = on ∙ ap (λ (o : Opened). record o { place = o.place + n }) at
+moved_on file now later m n at on = on ∙ ap (λ (o : OpenPath). record o { place = o.place + n }) at
     ∙ ap (λ (k : ℕ). record file { place = k }) (omega arith)
 
-place_of : (file now : Opened) (m : ℕ) → now ≡ record file { place = file.place + m } → now.place ≡ file.place + m
-place_of file now m at = ap (λ (o : Opened). o.place) at
+place_of : (file now : OpenPath) (m : ℕ) → now ≡ record file { place = file.place + m } → now.place ≡ file.place + m
+place_of file now m at = ap (λ (o : OpenPath). o.place) at
 
 -- a longer piece
 piece_more : (place m n : ℕ) (content : List ℕ)
@@ -52,8 +55,9 @@ put_more m k n buf part within fits =
     ∙ ap (λ (xs : List ℕ). take m buf ++ xs) (take-append-le n part (post_of m k buf) fits)
 
 -- more was read behind what the buffer had
-pub filled_more : (t u : Tree) (file now later : Opened) (buf part : List ℕ) (m n k : ℕ) → u ≡ t → m ≤ length buf → n ≤ length part
-    → IsFilled t file m buf now → later ≡ record now { place = now.place + n } → ((b : Blob) → Leads u now b → IsRead b now.place n part)
+pub filled_more : (t u : Tree) (file now later : OpenPath) (buf part : List ℕ) (m n k : ℕ) → u ≡ t → m ≤ length buf → n ≤ length part
+    → IsFilled t file m buf now → later ≡ record now { place = now.place + n }
+    → ((b : Blob) → StillLeads u now b → IsRead b now.place n part)
     → IsFilled t file (m + n) (put_mid m k buf part) later
 filled_more t u file now later buf part m n k same within fits so on reads = record {
   at = moved_on file now later m n so.at on;
@@ -75,7 +79,7 @@ filled_more t u file now later buf part m n k same within fits so on reads = rec
 }
 
 -- nothing was read
-pub filled_same : (t : Tree) (file now later : Opened) (buf part : List ℕ) (m k : ℕ) → m ≤ length buf → IsFilled t file m buf now
+pub filled_same : (t : Tree) (file now later : OpenPath) (buf part : List ℕ) (m k : ℕ) → m ≤ length buf → IsFilled t file m buf now
     → later ≡ now → IsFilled t file m (put_mid m k buf part) later
 filled_same t file now later buf part m k within so stays = record {
   at = stays ∙ so.at;
@@ -84,9 +88,10 @@ filled_same t file now later buf part m k within so stays = record {
 }
 
 -- the end was reached
-pub filled_ends : (t u : Tree) (file now later : Opened) (buf part : List ℕ) (m k room : ℕ) → u ≡ t → m ≤ length buf → m ≤ room
-    → IsFilled t file m buf now → later ≡ record now { place = now.place + 0 } → ((b : Blob) → Leads u now b → IsRead b now.place 0 part)
-    → (later ≡ record file { place = file.place + m }) × ((b : Blob) → Leads t file b
+pub filled_ends : (t u : Tree) (file now later : OpenPath) (buf part : List ℕ) (m k room : ℕ) → u ≡ t → m ≤ length buf → m ≤ room
+    → IsFilled t file m buf now → later ≡ record now { place = now.place + 0 }
+    → ((b : Blob) → StillLeads u now b → IsRead b now.place 0 part)
+    → (later ≡ record file { place = file.place + m }) × ((b : Blob) → StillLeads t file b
     → (m ≡ length (piece_at file.place room b.content)) × (take m (put_mid m k buf part) ≡ piece_at file.place room b.content))
 filled_ends t u file now later buf part m k room same within fits so on reads = (
   moved_on file now later m 0 so.at on ∙ ap (λ (i : ℕ). record file { place = file.place + i }) (omega arith),
@@ -115,7 +120,7 @@ pub put_same : (m : ℕ) (buf part : List ℕ) → m ≤ length buf → length p
 put_same m buf part within same = let long = same_len_mid m (length buf - m) buf part same in omega arith
 
 -- more room changes nothing of what was read
-pub filled_roomy : (t : Tree) (file now : Opened) (buf wide : List ℕ) (m : ℕ) → take m wide ≡ take m buf → IsFilled t file m buf now
+pub filled_roomy : (t : Tree) (file now : OpenPath) (buf wide : List ℕ) (m : ℕ) → take m wide ≡ take m buf → IsFilled t file m buf now
     → IsFilled t file m wide now
 filled_roomy t file now buf wide m front so = record {
   at = so.at;
@@ -123,9 +128,10 @@ filled_roomy t file now buf wide m front so = record {
 }
 
 -- all of a file was read from its beginning on
-pub filled_whole : (t u : Tree) (file now later : Opened) (buf part : List ℕ) (m k : ℕ) → u ≡ t → m ≤ length buf
-    → IsFilled t file m buf now → later ≡ record now { place = now.place + 0 } → ((b : Blob) → Leads u now b → IsRead b now.place 0 part)
-    → (b : Blob) → Leads t file b → file.place ≡ 0 → take m (put_mid m k buf part) ≡ b.content
+pub filled_whole : (t u : Tree) (file now later : OpenPath) (buf part : List ℕ) (m k : ℕ) → u ≡ t → m ≤ length buf
+    → IsFilled t file m buf now → later ≡ record now { place = now.place + 0 }
+    → ((b : Blob) → StillLeads u now b → IsRead b now.place 0 part)
+    → (b : Blob) → StillLeads t file b → file.place ≡ 0 → take m (put_mid m k buf part) ≡ b.content
 filled_whole t u file now later buf part m k same within so on reads b leads begins =
     let before = so.bytes b leads in
     let read = reads b (leads_on t u file now m b same so.at leads) in
@@ -170,9 +176,11 @@ pub edges_large : (content head tail : List ℕ) (size from to : ℕ) → 5 ≤ 
     → record { size = size; head = head; tail = tail } ≡ edges_of content
 edges_large content head tail size from to long is begins ends five two first last =
     let head_is : head ≡ (edges_of content).head =
-    first ∙ ap (λ (n : ℕ). take n (drop from content)) five ∙ ap (λ (p : ℕ). take 5 (drop p content)) begins ∙ first_five content (omega arith) in
+    first ∙ ap (λ (n : ℕ). take n (drop from content)) five ∙ ap (λ (p : ℕ). take 5 (drop p content)) begins
+    ∙ first_five content (omega arith) in
     let tail_is : tail ≡ (edges_of content).tail =
-    last ∙ ap (λ (n : ℕ). take n (drop to content)) two ∙ ap (λ (p : ℕ). take 2 (drop p content)) (ends ∙ ap (λ (n : ℕ). n - 2) is) ∙ last_two content (omega arith) in
+    last ∙ ap (λ (n : ℕ). take n (drop to content)) two ∙ ap (λ (p : ℕ). take 2 (drop p content)) (ends ∙ ap (λ (n : ℕ). n - 2) is)
+    ∙ last_two content (omega arith) in
     ap (λ (n : ℕ). record { size = n; head = head; tail = tail }) is
     ∙ ap (λ (xs : List ℕ). record { size = length content; head = xs; tail = tail }) head_is
     ∙ ap (λ (xs : List ℕ). record { size = length content; head = (edges_of content).head; tail = xs }) tail_is

@@ -25,13 +25,13 @@ pub record Tree : Type 0 where
   pub turn : ℕ
 
 -- a file or a folder that was opened: by which path, after how many names were given, and where the next read begins
-pub record Opened : Type 0 where
+pub record OpenPath : Type 0 where
   pub path : List ℕ
   pub turn : ℕ
   pub place : ℕ
 
 -- it is the file that its path leads to: no file got a name since it was opened
-pub record Leads (t : Tree) (o : Opened) (b : Blob) : Type 0 where
+pub record StillLeads (t : Tree) (o : OpenPath) (b : Blob) : Type 0 where
   pub turn : o.turn ≡ t.turn
   pub there : find o.path t.directory.entries ≡ Some b
 
@@ -44,8 +44,8 @@ abbrev pub WasInterrupted : Denial → Type 0
 WasInterrupted d = error_kind d.error ≡ Interrupted
 
 -- the path leads to a file with these bytes now
-abbrev pub with_file : Tree → List ℕ → Blob → Tree
-with_file t path b = record t { directory = with_blob t.directory path b }
+abbrev pub with_file_at : Tree → List ℕ → Blob → Tree
+with_file_at t path b = record t { directory = with_blob t.directory path b }
 
 -- ---- files that have no name yet
 
@@ -77,13 +77,13 @@ Stats t path (Ok stat) = TellsFile (find path t.directory.entries) stat
 Stats t path (Err d) = IsAbsent d → find path t.directory.entries ≡ None
 
 -- open(2) of what is there; ENOENT: no file is
-abbrev pub Opens : {H : Type 0} → (H → Opened) → Tree → List ℕ → Result H Denial → Type 0
+abbrev pub Opens : {H : Type 0} → (H → OpenPath) → Tree → List ℕ → Result H Denial → Type 0
 Opens opened t path (Ok file) = opened file ≡ record { path = path; turn = t.turn; place = 0 }
 Opens opened t path (Err d) = IsAbsent d → find path t.directory.entries ≡ None
 
 -- fstat(2): the size of the file
-abbrev pub StatsOpened : Tree → Opened → Result FileStat Denial → Type 0
-StatsOpened t file (Ok stat) = (b : Blob) → Leads t file b → stat.len ≡ length b.content
+abbrev pub StatsOpened : Tree → OpenPath → Result FileStat Denial → Type 0
+StatsOpened t file (Ok stat) = (b : Blob) → StillLeads t file b → stat.len ≡ length b.content
 StatsOpened t file (Err d) = IsAbsent d → ⊥
 
 -- the bytes from a place on, as many as were read
@@ -98,40 +98,41 @@ pub record IsRead (b : Blob) (place n : ℕ) (buf : List ℕ) : Type 0 where
 
 -- read(2) into some room: the front of the buffer has what was read, and the next read begins behind it; EINTR: nothing
 -- was read
-abbrev pub Reads : Tree → Opened → Result ℕ Denial → List ℕ → Opened → Type 0
-Reads t file (Ok n) buf later =
-    (later ≡ record file { place = file.place + n }) × ((b : Blob) → Leads t file b → IsRead b file.place n buf)
-Reads t file (Err d) buf later = (IsAbsent d → ⊥) × (WasInterrupted d → later ≡ file)
+abbrev pub ReadsInto : Tree → OpenPath → Result ℕ Denial → List ℕ → OpenPath → Type 0
+ReadsInto t file (Ok n) buf later =
+    (later ≡ record file { place = file.place + n }) × ((b : Blob) → StillLeads t file b → IsRead b file.place n buf)
+ReadsInto t file (Err d) buf later = (IsAbsent d → ⊥) × (WasInterrupted d → later ≡ file)
 
 -- lseek(2) to a place, from the beginning on
-abbrev pub Seeks : {T : Type 0} → Opened → ℕ → Result T Denial → Opened → Type 0
+abbrev pub Seeks : {T : Type 0} → OpenPath → ℕ → Result T Denial → OpenPath → Type 0
 Seeks file place (Ok done) later = later ≡ record file { place = place }
 Seeks file place (Err d) later = IsAbsent d → ⊥
 
 -- write(2) to a file that was opened with O_APPEND: a front of the bytes was appended. After an error a front of them
 -- may have been; EINTR: none was
-abbrev pub Writes : Tree → Opened → List ℕ → Result ℕ Denial → Tree → Type 0
-Writes old file bytes (Ok n) new =
-    (b : Blob) → Leads old file b → new ≡ with_file old file.path (appended b (take n bytes))
-Writes old file bytes (Err d) new = (WasInterrupted d → new ≡ old) × ((b : Blob) → Leads old file b
-    → (new ≡ old) ⊎ ((front rest : List ℕ) × (bytes ≡ front ++ rest) × (new ≡ with_file old file.path (appended b front))))
+abbrev pub WritesOnto : Tree → OpenPath → List ℕ → Result ℕ Denial → Tree → Type 0
+WritesOnto old file bytes (Ok n) new =
+    (b : Blob) → StillLeads old file b → new ≡ with_file_at old file.path (appended b (take n bytes))
+WritesOnto old file bytes (Err d) new = (WasInterrupted d → new ≡ old) × ((b : Blob) → StillLeads old file b
+    → (new ≡ old) ⊎ ((front rest : List ℕ) × (bytes ≡ front ++ rest)
+    × (new ≡ with_file_at old file.path (appended b front))))
 
 -- the open file has at least so many bytes
-abbrev pub IsWithin : Tree → Opened → ℕ → Type 0
-IsWithin t file len = (b : Blob) → Leads t file b → len ≤ length b.content
+abbrev pub IsLongEnough : Tree → OpenPath → ℕ → Type 0
+IsLongEnough t file len = (b : Blob) → StillLeads t file b → len ≤ length b.content
 
 -- ftruncate(2) to at most the size of the file; a refused call did that, or nothing
-abbrev pub Cuts : {T : Type 0} → Tree → Opened → ℕ → Result T Denial → Tree → Type 0
-Cuts old file len (Ok done) new = (b : Blob) → Leads old file b → new ≡ with_file old file.path (cut b len)
-Cuts old file len (Err d) new =
-    (b : Blob) → Leads old file b → (new ≡ old) ⊎ (new ≡ with_file old file.path (cut b len))
+abbrev pub Truncates : {T : Type 0} → Tree → OpenPath → ℕ → Result T Denial → Tree → Type 0
+Truncates old file len (Ok done) new = (b : Blob) → StillLeads old file b → new ≡ with_file_at old file.path (cut b len)
+Truncates old file len (Err d) new =
+    (b : Blob) → StillLeads old file b → (new ≡ old) ⊎ (new ≡ with_file_at old file.path (cut b len))
 
--- fsync(2) of a file: its bytes are durable. After an error they may be, or nothing more of the file is known to reach the
--- disk
-abbrev pub Syncs : {T : Type 0} → Tree → Opened → Result T Denial → Tree → Type 0
-Syncs old file (Ok done) new = (b : Blob) → Leads old file b → new ≡ with_file old file.path (flushed b)
-Syncs old file (Err d) new = (b : Blob) → Leads old file b → (new ≡ old)
-    ⊎ ((new ≡ with_file old file.path (flushed b)) ⊎ (new ≡ with_file old file.path (doubted b)))
+-- fsync(2) of a file: its bytes are durable. After an error they may be, or nothing more of the file is known to reach
+-- the disk
+abbrev pub Syncs : {T : Type 0} → Tree → OpenPath → Result T Denial → Tree → Type 0
+Syncs old file (Ok done) new = (b : Blob) → StillLeads old file b → new ≡ with_file_at old file.path (flushed b)
+Syncs old file (Err d) new = (b : Blob) → StillLeads old file b → (new ≡ old)
+    ⊎ ((new ≡ with_file_at old file.path (flushed b)) ⊎ (new ≡ with_file_at old file.path (doubted b)))
 
 -- the names in a folder are durable; of others that isn't known
 abbrev pub names_synced : Tree → List ℕ → Tree
@@ -139,9 +140,9 @@ names_synced t folder = record t {
   directory = record t.directory { older = outside (front_of folder) t.directory.older };
 }
 
--- fsync(2) of a folder: the names in it are durable; a refused call did that, or nothing. That the file system flushes no
--- folders (EINVAL, ENOTSUP) ends the premise
-abbrev pub SyncsNames : {T : Type 0} → Tree → Opened → Result T Denial → Tree → Type 0
+-- fsync(2) of a folder: the names in it are durable; a refused call did that, or nothing. That the file system flushes
+-- no folders (EINVAL, ENOTSUP) ends the premise
+abbrev pub SyncsNames : {T : Type 0} → Tree → OpenPath → Result T Denial → Tree → Type 0
 SyncsNames old folder (Ok done) new = new ≡ names_synced old folder.path
 SyncsNames old folder (Err d) new = (error_kind d.error ≢ InvalidInput) × (error_kind d.error ≢ Unsupported)
     × ((new ≡ old) ⊎ (new ≡ names_synced old folder.path))
@@ -149,14 +150,14 @@ SyncsNames old folder (Err d) new = (error_kind d.error ≢ InvalidInput) × (er
 -- ---- what a device answers
 
 -- a refused call of a device: the file isn't there, or anything else
-abbrev pub fault_of : ErrorKind → StoreFault
-fault_of NotFound = Missing
-fault_of _ = Refused
+abbrev pub device_fault : ErrorKind → StoreFault
+device_fault NotFound = Missing
+device_fault _ = Refused
 
 -- the answer of a device, from that of the system
 abbrev pub answered : {T : Type 0} → Result T Denial → Result T StoreFault
 answered (Ok value) = Ok value
-answered (Err d) = Err (fault_of (error_kind d.error))
+answered (Err d) = Err (device_fault (error_kind d.error))
 
 -- ---- steps of what is done in several calls
 
@@ -166,82 +167,85 @@ WritesSome old bytes new (Some n) = new ≡ record { content = old.content ++ ta
 WritesSome old bytes new None = new ≡ old
 
 -- some of the bytes of an open file were read, or the call was interrupted
-abbrev pub ReadsSome : Tree → Opened → List ℕ → Opened → Option ℕ → Type 0
+abbrev pub ReadsSome : Tree → OpenPath → List ℕ → OpenPath → Option ℕ → Type 0
 ReadsSome t file buf later (Some n) =
-    (later ≡ record file { place = file.place + n }) × ((b : Blob) → Leads t file b → IsRead b file.place n buf)
+    (later ≡ record file { place = file.place + n }) × ((b : Blob) → StillLeads t file b → IsRead b file.place n buf)
 ReadsSome t file buf later None = later ≡ file
 
 -- the regular file at a path is open at its beginning
-abbrev pub IsOpenAt : Tree → List ℕ → Opened → Type 0
-IsOpenAt t path file =
+abbrev pub IsOpenedAt : Tree → List ℕ → OpenPath → Type 0
+IsOpenedAt t path file =
     (file ≡ record { path = path; turn = t.turn; place = 0 }) × ((b : Blob) × (find path t.directory.entries ≡ Some b))
 
 -- the regular file at a path was opened, or there is none, or the call was refused
-abbrev pub OpensRegular : {H : Type 0} → (H → Opened) → Tree → List ℕ → Result H Denial → Type 0
-OpensRegular opened t path (Ok file) = IsOpenAt t path (opened file)
+abbrev pub OpensRegular : {H : Type 0} → (H → OpenPath) → Tree → List ℕ → Result H Denial → Type 0
+OpensRegular opened t path (Ok file) = IsOpenedAt t path (opened file)
 OpensRegular opened t path (Err d) = IsAbsent d → find path t.directory.entries ≡ None
 
 -- the same; None is a folder
-abbrev pub OpensFound : {H : Type 0} → (H → Opened) → Tree → List ℕ → Result (Option H) Denial → Type 0
-OpensFound opened t path (Ok (Some file)) = IsOpenAt t path (opened file)
+abbrev pub OpensFound : {H : Type 0} → (H → OpenPath) → Tree → List ℕ → Result (Option H) Denial → Type 0
+OpensFound opened t path (Ok (Some file)) = IsOpenedAt t path (opened file)
 OpensFound opened t path (Ok None) = Unit {0}
 OpensFound opened t path (Err d) = IsAbsent d → find path t.directory.entries ≡ None
 
 -- the front of a buffer has this many bytes of an open file from its place on
-pub record IsFilled (t : Tree) (file : Opened) (n : ℕ) (buf : List ℕ) (later : Opened) : Type 0 where
+pub record IsFilled (t : Tree) (file : OpenPath) (n : ℕ) (buf : List ℕ) (later : OpenPath) : Type 0 where
   pub at : later ≡ record file { place = file.place + n }
-  pub bytes : (b : Blob) → Leads t file b
+  pub bytes : (b : Blob) → StillLeads t file b
       → (n ≡ length (piece_at file.place n b.content)) × (take n buf ≡ piece_at file.place n b.content)
 
 -- a buffer was filled with the bytes of an open file from its place on, as far as there are any
-abbrev pub Fills : Tree → Opened → Result ℕ Denial → List ℕ → Opened → Type 0
+abbrev pub Fills : Tree → OpenPath → Result ℕ Denial → List ℕ → OpenPath → Type 0
 Fills t file (Ok n) buf later = (later ≡ record file { place = file.place + n })
-    × ((b : Blob) → Leads t file b
-    → (n ≡ length (piece_at file.place (length buf) b.content)) × (take n buf ≡ piece_at file.place (length buf) b.content))
+    × ((b : Blob) → StillLeads t file b
+    → (n ≡ length (piece_at file.place (length buf) b.content))
+    × (take n buf ≡ piece_at file.place (length buf) b.content))
 Fills t file (Err d) buf later = IsAbsent d → ⊥
 
 -- the same if all of the buffer was filled
-abbrev pub FillsWhole : {T : Type 0} → Tree → Opened → Result T Denial → List ℕ → Opened → Type 0
+abbrev pub FillsWhole : {T : Type 0} → Tree → OpenPath → Result T Denial → List ℕ → OpenPath → Type 0
 FillsWhole t file (Ok done) buf later = (later ≡ record file { place = file.place + length buf })
-    × ((b : Blob) → Leads t file b → buf ≡ piece_at file.place (length buf) b.content)
+    × ((b : Blob) → StillLeads t file b → buf ≡ piece_at file.place (length buf) b.content)
 FillsWhole t file (Err d) buf later = IsAbsent d → ⊥
 
 -- an open file was read from its beginning on, or the call was refused
-abbrev pub ReadsOpened : {B : Type 0} → Tree → Opened → Result (Vec ℕ B) Denial → Type 0
-ReadsOpened t file (Ok bytes) = (b : Blob) → Leads t file b → file.place ≡ 0 → bytes.items ≡ b.content
+abbrev pub ReadsOpened : {B : Type 0} → Tree → OpenPath → Result (Vec ℕ B) Denial → Type 0
+ReadsOpened t file (Ok bytes) = (b : Blob) → StillLeads t file b → file.place ≡ 0 → bytes.items ≡ b.content
 ReadsOpened t file (Err d) = IsAbsent d → ⊥
 
 -- the same of its ends, if its size is known
-abbrev pub MeasuresOpened : Tree → Opened → ℕ → Result Edges Denial → Type 0
+abbrev pub MeasuresOpened : Tree → OpenPath → ℕ → Result Edges Denial → Type 0
 MeasuresOpened t file size (Ok edges) =
-    (b : Blob) → Leads t file b → file.place ≡ 0 → size ≡ length b.content → edges ≡ edges_of b.content
+    (b : Blob) → StillLeads t file b → file.place ≡ 0 → size ≡ length b.content → edges ≡ edges_of b.content
 MeasuresOpened t file size (Err d) = IsAbsent d → ⊥
 
 -- the same of the bytes from a place on, as many as fit
-abbrev pub ReadsPieceOpened : Tree → Opened → ℕ → Result ℕ Denial → List ℕ → Type 0
-ReadsPieceOpened t file start (Ok n) buf = (b : Blob) → Leads t file b
+abbrev pub ReadsPieceOpened : Tree → OpenPath → ℕ → Result ℕ Denial → List ℕ → Type 0
+ReadsPieceOpened t file start (Ok n) buf = (b : Blob) → StillLeads t file b
     → (n ≡ length (piece_at start (length buf) b.content)) × (take n buf ≡ piece_at start (length buf) b.content)
 ReadsPieceOpened t file start (Err d) buf = IsAbsent d → ⊥
 
--- some of the bytes were appended to an open file, or the call was interrupted; a refused call appended a front of them,
--- or nothing
-abbrev pub AppendsSome : Tree → Opened → List ℕ → Result (Option ℕ) Denial → Tree → Type 0
+-- some of the bytes were appended to an open file, or the call was interrupted; a refused call appended a front of
+-- them, or nothing
+abbrev pub AppendsSome : Tree → OpenPath → List ℕ → Result (Option ℕ) Denial → Tree → Type 0
 AppendsSome old file bytes (Ok (Some n)) new =
-    (b : Blob) → Leads old file b → new ≡ with_file old file.path (appended b (take n bytes))
+    (b : Blob) → StillLeads old file b → new ≡ with_file_at old file.path (appended b (take n bytes))
 AppendsSome old file bytes (Ok None) new = new ≡ old
-AppendsSome old file bytes (Err d) new = (b : Blob) → Leads old file b
-    → (new ≡ old) ⊎ ((front rest : List ℕ) × (bytes ≡ front ++ rest) × (new ≡ with_file old file.path (appended b front)))
+AppendsSome old file bytes (Err d) new = (b : Blob) → StillLeads old file b
+    → (new ≡ old) ⊎ ((front rest : List ℕ) × (bytes ≡ front ++ rest)
+    × (new ≡ with_file_at old file.path (appended b front)))
 
 -- these bytes were appended to an open file
-pub record IsAppendedSoFar (old : Tree) (file : Opened) (front : List ℕ) (new : Tree) : Type 0 where
-  pub is : (b : Blob) → Leads old file b → new ≡ with_file old file.path (appended b front)
+pub record IsAppendedSoFar (old : Tree) (file : OpenPath) (front : List ℕ) (new : Tree) : Type 0 where
+  pub is : (b : Blob) → StillLeads old file b → new ≡ with_file_at old file.path (appended b front)
 
 -- bytes were appended to an open file; or a front of them, or nothing
-abbrev pub AppendsOpened : {T : Type 0} → Tree → Opened → List ℕ → Result T Denial → Tree → Type 0
+abbrev pub AppendsOpened : {T : Type 0} → Tree → OpenPath → List ℕ → Result T Denial → Tree → Type 0
 AppendsOpened old file bytes (Ok done) new =
-    (b : Blob) → Leads old file b → new ≡ with_file old file.path (appended b bytes)
-AppendsOpened old file bytes (Err d) new = (b : Blob) → Leads old file b
-    → (new ≡ old) ⊎ ((front rest : List ℕ) × (bytes ≡ front ++ rest) × (new ≡ with_file old file.path (appended b front)))
+    (b : Blob) → StillLeads old file b → new ≡ with_file_at old file.path (appended b bytes)
+AppendsOpened old file bytes (Err d) new = (b : Blob) → StillLeads old file b
+    → (new ≡ old) ⊎ ((front rest : List ℕ) × (bytes ≡ front ++ rest)
+    × (new ≡ with_file_at old file.path (appended b front)))
 
 -- the names in the folder at a path were flushed; or that was refused, and done or not
 abbrev pub FlushesFolder : Tree → List ℕ → Result Bool Denial → Tree → Type 0
@@ -250,7 +254,7 @@ FlushesFolder old folder (Err d) new = (new ≡ old) ⊎ (new ≡ names_synced o
 
 -- ---- a system of which nothing is known
 
-abbrev pub unknown_opened : Opened
+abbrev pub unknown_opened : OpenPath
 unknown_opened = record { path = []; turn = 0; place = 0 }
 
 abbrev pub unknown_tree : Tree

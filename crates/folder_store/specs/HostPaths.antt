@@ -20,8 +20,8 @@ path_of_file base folder name = front_of (path_of_folder base folder) ++ name
 abbrev pub folder_of : HostPaths → List ℕ
 folder_of paths = path_of_folder paths.base.now paths.folder.now
 
-abbrev pub path_in : HostPaths → List ℕ → List ℕ
-path_in paths name = front_of (folder_of paths) ++ name
+abbrev pub path_named : HostPaths → List ℕ → List ℕ
+path_named paths name = front_of (folder_of paths) ++ name
 
 -- a name with the mark of a process, its id and octets of random, after it
 abbrev pub with_process_mark : ProcessMark → List ℕ → List ℕ

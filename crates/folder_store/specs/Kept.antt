@@ -3,15 +3,16 @@ use Rattle.std.specs.Prelude.{◌≡◌, ◌≢◌, ◌++◌, ℕ, List, None, S
 use Rattle.system_calls.specs.declared.refusal.Denial.{Denial}
 use Rattle.folder_store.specs.{
   declared.{handles.{Changed.Changed, Handles.Handles, Names.Names}, host_paths.HostPaths.HostPaths},
-  Calls.{IsAbsent, IsOpenAt, Opened, Tree},
+  Calls.{IsAbsent, IsOpenedAt, OpenPath, Tree},
   FileFolder.find,
-  HostPaths.path_in,
+  HostPaths.path_named,
   Under.front_of,
 }
 
--- while the system does what its calls promise, the file that was changed last is the one that its name leads to, and the
--- open folder is that of the path
-pub record KeptHolds {F : Type 0} (sound : Type 0) (opened : F → Opened) (t : Tree) (folder : List ℕ) (handles : Handles F) : Type 0 where
+-- while the system does what its calls promise, the file that was changed last is the one that its name leads to, and
+-- the open folder is that of the path
+pub record KeptHolds {F : Type 0} (sound : Type 0) (opened : F → OpenPath) (t : Tree) (folder : List ℕ)
+    (handles : Handles F) : Type 0 where
   pub changed : (c : Changed F) → handles.changed ≡ Some c → sound
       → opened c.file ≡ record { path = front_of folder ++ string_bytes c.name; turn = t.turn; place = 0 }
   pub there : (c : Changed F) → handles.changed ≡ Some c → sound
@@ -19,6 +20,7 @@ pub record KeptHolds {F : Type 0} (sound : Type 0) (opened : F → Opened) (t : 
   pub names : (n : Names F) → handles.names ≡ Some n → sound → (opened n.folder).path ≡ folder
 
 -- the file of a name is open to be changed
-abbrev pub OpensKept : {F : Type 0} → (F → Opened) → Tree → HostPaths → List ℕ → Result (Changed F) Denial → Type 0
-OpensKept opened t paths name (Ok c) = IsOpenAt t (path_in paths name) (opened c.file) × (string_bytes c.name ≡ name)
-OpensKept opened t paths name (Err d) = IsAbsent d → find (path_in paths name) t.directory.entries ≡ None
+abbrev pub OpensKept : {F : Type 0} → (F → OpenPath) → Tree → HostPaths → List ℕ → Result (Changed F) Denial → Type 0
+OpensKept opened t paths name (Ok c) = IsOpenedAt t (path_named paths name) (opened c.file)
+    × (string_bytes c.name ≡ name)
+OpensKept opened t paths name (Err d) = IsAbsent d → find (path_named paths name) t.directory.entries ≡ None

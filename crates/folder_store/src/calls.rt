@@ -62,9 +62,9 @@ pub trait MadeHandle {
 /// A file or a folder that was opened.
 pub trait OpenHandle {
     ghost use Rattle.std.specs.Prelude.{◌≡◌};
-    ghost use Rattle.folder_store.specs.Calls.{Opened};
+    ghost use Rattle.folder_store.specs.Calls.{OpenPath};
 
-    ghost opened: { Self → Opened };
+    ghost opened: { Self → OpenPath };
 
     /// An error about it.
     fn denied(&self, error: io::Error) -> Denial
@@ -74,8 +74,17 @@ pub trait OpenHandle {
 /// A file system, as one device asks it, each call of which may be refused.
 pub trait FileCalls {
     ghost use Rattle.std.specs.Prelude.{◌≡◌, ◌<◌, ◌≤◌, IfOk, length};
-    ghost use Rattle.folder_store.specs.Calls.{Creates, Cuts, IsWithin, Opens, Reads, Renames, Seeks, Stats};
-    ghost use Rattle.folder_store.specs.Calls.{StatsOpened, Syncs, SyncsNames, Tree, Writes};
+    ghost use Rattle.folder_store.specs.Calls.{
+      Creates,
+      Truncates,
+      IsLongEnough,
+      Opens,
+      ReadsInto,
+      Renames,
+      Seeks,
+      Stats,
+    };
+    ghost use Rattle.folder_store.specs.Calls.{StatsOpened, Syncs, SyncsNames, Tree, WritesOnto};
 
     type Made: MadeHandle + Drop;
 
@@ -129,7 +138,7 @@ pub trait FileCalls {
         requires { 0 < length buf.old }
         ensures within { IfOk result (λ n. n ≤ length buf.new) }
         ensures reads { sound self.new → sound self.old × (tree self.new ≡ tree self.old)
-            × Reads (tree self.old) (Self.File.opened file.old) result buf.new (Self.File.opened file.new) };
+            × ReadsInto (tree self.old) (Self.File.opened file.old) result buf.new (Self.File.opened file.new) };
 
     /// lseek(2), from the beginning on.
     fn seek(&mut self, file: &mut Self::File, place: u64) -> Result<(), Denial>
@@ -141,13 +150,13 @@ pub trait FileCalls {
         ensures within { IfOk result (λ n. n ≤ length bytes.now) }
         ensures writes { sound self.new → sound self.old
             × (Self.File.opened file.new ≡ Self.File.opened file.old)
-            × Writes (tree self.old) (Self.File.opened file.old) bytes.now result (tree self.new) };
+            × WritesOnto (tree self.old) (Self.File.opened file.old) bytes.now result (tree self.new) };
 
     /// ftruncate(2), to at most what there is.
     fn ftruncate(&mut self, file: &Self::File, len: u64) -> Result<(), Denial>
-        requires { sound self.old → IsWithin (tree self.old) (Self.File.opened file.now) len }
+        requires { sound self.old → IsLongEnough (tree self.old) (Self.File.opened file.now) len }
         ensures { sound self.new → sound self.old
-            × Cuts (tree self.old) (Self.File.opened file.now) len result (tree self.new) };
+            × Truncates (tree self.old) (Self.File.opened file.now) len result (tree self.new) };
 
     /// fsync(2) of a file.
     fn fsync(&mut self, file: &Self::File) -> Result<(), Denial>

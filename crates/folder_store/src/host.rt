@@ -8,7 +8,7 @@ ghost use Rattle.folder_store.specs.{
   Under.{directory_under, front_of},
 };
 
-use crate::calls::{Access, FileCalls, OpenHandle};
+use crate::calls::{Access, FileCalls, FileKind, OpenHandle};
 use crate::exact_listing::{FolderNames, Wanted, list_names};
 use crate::file_folder::{FileFolder, FolderState};
 use crate::handles::Handles;
@@ -23,11 +23,11 @@ use crate::process_mark::ProcessMark;
 use crate::system::sweep;
 use mail_store::{Edges, StoreFault};
 use std::alloc::{AllocError, Global};
-use std::fs::{Metadata, OpenFile};
+use std::fs::Metadata;
 use std::io::ErrorKind;
 use std::rt::Files;
 use std::time::Clock;
-use system_calls::{Denial, Noted, Refusals, System};
+use system_calls::{Denial, OpenAt, Refusals, System};
 
 /// A folder of a file system, over its single calls. What is known of it is what is known of them.
 ///
@@ -197,7 +197,7 @@ impl<'a, R: Files + AllocGlobal> CallsFolder<'a, HostCalls<'a, R>> {
 
     // Opens a regular file, or one that a link leads to, if the name is still there. It is refused if the name
     // stands for anything else.
-    fn open_if_there(&mut self, name: &str) -> Result<Option<Noted<'a, R::File>>, Denial> {
+    fn open_if_there(&mut self, name: &str) -> Result<Option<OpenAt<R::File>>, Denial> {
         let found = match open_found(&mut self.calls, &self.paths, name, Access::Read) {
             Ok(found) => found,
             Err(fault) => {
@@ -209,7 +209,7 @@ impl<'a, R: Files + AllocGlobal> CallsFolder<'a, HostCalls<'a, R>> {
             }
         };
         if let Some(file) = found {
-            if !file.at(file.metadata())?.is_dir() {
+            if self.calls.fstat(&file)?.kind != FileKind::Folder {
                 return Ok(Some(file));
             }
         }
@@ -222,7 +222,7 @@ impl<'a, R: Files + AllocGlobal> CallsFolder<'a, HostCalls<'a, R>> {
         let is_link = self.is_link(name);
         match self.open_if_there(name) {
             Ok(Some(file)) => {
-                file.at(file.sync_all())?;
+                self.calls.fsync(&file)?;
                 Ok(Some(!is_link || self.are_targets_synced(name)?))
             }
             Ok(None) => Ok(Some(false)),

@@ -9,19 +9,12 @@ use std::fs::{Metadata, OpenFile, OpenOptions};
 use std::io::{self, Read, Seek, SeekFrom, Write};
 use std::os::unix::fs::{MetadataExt, OpenOptionsExt};
 use std::rt::Files;
-use system_calls::{Denial, Noted, System};
+use system_calls::{Denial, OpenAt, System};
 
 /// The machine's file system. Nothing is known of what it does: each call passes one call on.
 #[derive(Drop)]
 pub struct HostCalls<'a, R> {
     pub system: &'a System<'a, R>,
-}
-
-/// A file of it that was made, and its path.
-#[derive(Drop)]
-pub struct HostMade<'a, R: Files> {
-    file: Noted<'a, R::File>,
-    pub path: String,
 }
 
 impl FileStat {
@@ -45,57 +38,56 @@ impl FileStat {
     }
 }
 
-impl<'a, R: Files> MadeHandle for HostMade<'a, R> {
+impl<F: OpenFile + Write> MadeHandle for OpenAt<F> {
     ghost made = { λ _. empty_made };
 
     ghost sound = { λ _. ⊥ };
 
     fn write(&mut self, bytes: &[u8]) -> Result<usize, Denial> {
-        let answer = self.file.write(bytes);
-        self.file.at(answer)
+        let answer = self.inner.write(bytes);
+        self.asked("write", answer)
     }
 
     fn fsync(&mut self) -> Result<(), Denial> {
-        self.file.at(self.file.sync_all())
+        self.asked("fsync", self.inner.sync_all())
     }
 
     fn denied(&self, error: io::Error) -> Denial {
-        self.file.denied(error)
+        OpenAt::denied(self, error)
     }
 }
 
-impl<'a, S> OpenHandle for Noted<'a, S> {
+impl<F> OpenHandle for OpenAt<F> {
     ghost opened = { λ _. unknown_opened };
 
     fn denied(&self, error: io::Error) -> Denial {
-        Noted::denied(self, error)
+        OpenAt::denied(self, error)
     }
 }
 
+// A file doesn't borrow from the system: the checker of borrows would not see at which lifetime.
 impl<'a, R: Files + AllocGlobal> FileCalls for HostCalls<'a, R> {
-    type Made = HostMade<'a, R>;
+    type Made = OpenAt<R::File>;
 
-    type File = Noted<'a, R::File>;
+    type File = OpenAt<R::File>;
 
     ghost tree = { λ _. unknown_tree };
 
     // Of the file system nothing is known.
     ghost sound = { λ _. ⊥ };
 
-    fn create(&mut self, path: &str) -> Result<HostMade<'a, R>, Denial> {
-        let title = String::from_str(self.system.alloc(), path)?;
-        let file = self.system.open_with(
+    fn create(&mut self, path: &str) -> Result<OpenAt<R::File>, Denial> {
+        self.system.open_with(
             OpenOptions::new().write(true).create_new(true).mode(0o600),
             path,
-        )?;
-        Ok(HostMade { file, path: title })
+        )
     }
 
-    fn rename(&mut self, file: &HostMade<'a, R>, to: &str) -> Result<(), Denial> {
+    fn rename(&mut self, file: &OpenAt<R::File>, to: &str) -> Result<(), Denial> {
         self.system.rename(file.path.as_str(), to)
     }
 
-    fn unlink(&mut self, file: &HostMade<'a, R>) -> Result<(), Denial> {
+    fn unlink(&mut self, file: &OpenAt<R::File>) -> Result<(), Denial> {
         self.system.unlink(file.path.as_str())
     }
 
@@ -111,42 +103,42 @@ impl<'a, R: Files + AllocGlobal> FileCalls for HostCalls<'a, R> {
         flush_targets(self.system, String::from_str(self.system.alloc(), path)?)
     }
 
-    fn open(&mut self, path: &str, access: Access) -> Result<Noted<'a, R::File>, Denial> {
+    fn open(&mut self, path: &str, access: Access) -> Result<OpenAt<R::File>, Denial> {
         match access {
             Access::Read => self.system.open(path),
             Access::Append => self.system.open_with(OpenOptions::new().append(true), path),
         }
     }
 
-    fn fstat(&mut self, file: &Noted<'a, R::File>) -> Result<FileStat, Denial> {
-        Ok(FileStat::of(&file.at(file.metadata())?))
+    fn fstat(&mut self, file: &OpenAt<R::File>) -> Result<FileStat, Denial> {
+        Ok(FileStat::of(&file.asked("fstat", file.inner.metadata())?))
     }
 
-    fn read(&mut self, file: &mut Noted<'a, R::File>, buf: &mut [u8]) -> Result<usize, Denial> {
-        let answer = file.read(buf);
-        file.at(answer)
+    fn read(&mut self, file: &mut OpenAt<R::File>, buf: &mut [u8]) -> Result<usize, Denial> {
+        let answer = file.inner.read(buf);
+        file.asked("read", answer)
     }
 
-    fn seek(&mut self, file: &mut Noted<'a, R::File>, place: u64) -> Result<(), Denial> {
-        let answer = file.seek(SeekFrom::Start(place));
-        file.at(answer)?;
+    fn seek(&mut self, file: &mut OpenAt<R::File>, place: u64) -> Result<(), Denial> {
+        let answer = file.inner.seek(SeekFrom::Start(place));
+        file.asked("lseek", answer)?;
         Ok(())
     }
 
-    fn write(&mut self, file: &mut Noted<'a, R::File>, bytes: &[u8]) -> Result<usize, Denial> {
-        let answer = file.write(bytes);
-        file.at(answer)
+    fn write(&mut self, file: &mut OpenAt<R::File>, bytes: &[u8]) -> Result<usize, Denial> {
+        let answer = file.inner.write(bytes);
+        file.asked("write", answer)
     }
 
-    fn ftruncate(&mut self, file: &Noted<'a, R::File>, len: u64) -> Result<(), Denial> {
-        file.at(file.set_len(len))
+    fn ftruncate(&mut self, file: &OpenAt<R::File>, len: u64) -> Result<(), Denial> {
+        file.asked("ftruncate", file.inner.set_len(len))
     }
 
-    fn fsync(&mut self, file: &Noted<'a, R::File>) -> Result<(), Denial> {
-        file.at(file.sync_all())
+    fn fsync(&mut self, file: &OpenAt<R::File>) -> Result<(), Denial> {
+        file.asked("fsync", file.inner.sync_all())
     }
 
-    fn fsync_folder(&mut self, folder: &Noted<'a, R::File>) -> Result<(), Denial> {
-        folder.at(folder.sync_all())
+    fn fsync_folder(&mut self, folder: &OpenAt<R::File>) -> Result<(), Denial> {
+        folder.asked("fsync", folder.inner.sync_all())
     }
 }

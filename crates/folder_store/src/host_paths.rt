@@ -3,7 +3,7 @@
 ghost use Rattle.std.specs.{Prelude.{◌≡◌, ◌++◌, IfErr, IfOk, string_bytes}, Path.path_buf_bytes};
 ghost use Rattle.folder_store.specs.{
   Calls.IsAbsent,
-  HostPaths.{folder_of, path_in, path_of_file, path_of_folder, with_process_mark},
+  HostPaths.{folder_of, path_named, path_of_file, path_of_folder, with_process_mark},
 };
 
 use crate::process_mark::ProcessMark;
@@ -78,7 +78,7 @@ impl<'a> HostPaths<'a> {
 
     /// The path of a file.
     pub fn path_of(&self, name: &str) -> Result<String, Denial>
-        ensures path { IfOk result (λ path. string_bytes path ≡ path_in self.now name.now) }
+        ensures path { IfOk result (λ path. string_bytes path ≡ path_named self.now name.now) }
         ensures fault { IfErr result (λ d. IsAbsent d → ⊥) }
     {
         self.file_path(self.folder, name, "")
@@ -86,7 +86,8 @@ impl<'a> HostPaths<'a> {
 
     /// The path of a file that is made to be put under a name.
     pub fn made_path(&self, name: &str) -> Result<String, Denial>
-        ensures path { IfOk result (λ path. string_bytes path ≡ path_of_file self.now.base.now self.now.scratch.now name.now
+        ensures path { IfOk result
+            (λ path. string_bytes path ≡ path_of_file self.now.base.now self.now.scratch.now name.now
             ++ with_process_mark self.now.mark self.now.suffix.now) }
         ensures fault { IfErr result (λ d. IsAbsent d → ⊥) }
     {

@@ -2,9 +2,9 @@
 
 ghost use Rattle.std.specs.Prelude.{◌≡◌, ◌≤◌, None, IfOk, IfSome, OnOk, length};
 ghost use Rattle.folder_store.specs.{
-  Calls.{AppendsOpened, AppendsSome, Creates, Cuts, FlushesFolder, Renames, Syncs, answered},
+  Calls.{AppendsOpened, AppendsSome, Creates, Truncates, FlushesFolder, Renames, Syncs, answered},
   FileFolder.{AppendsTo, CutsTo, FlushesFile, TellsFileSize},
-  HostPaths.{folder_of, path_in},
+  HostPaths.{folder_of, path_named},
   Kept.{KeptHolds, OpensKept},
 };
 
@@ -38,7 +38,7 @@ fn rename_made<C: FileCalls>(
     name: &str,
 ) -> Result<(), Denial>
     ensures { C.sound calls.new → C.sound calls.old × OnOk result (C.Made.sound file.now)
-        × Renames (C.tree calls.old) (C.Made.made file.now) (path_in paths.now name.now) result (C.tree calls.new) }
+        × Renames (C.tree calls.old) (C.Made.made file.now) (path_named paths.now name.now) result (C.tree calls.new) }
 {
     let path = paths.path_of(name)?;
     calls.rename(file, path.as_str())
@@ -52,7 +52,7 @@ pub fn put_made<C: FileCalls>(
     name: &str,
 ) -> Result<(), Denial>
     ensures { C.sound calls.new → C.sound calls.old × C.Made.sound file.now
-        × Renames (C.tree calls.old) (C.Made.made file.now) (path_in paths.now name.now) result (C.tree calls.new) }
+        × Renames (C.tree calls.old) (C.Made.made file.now) (path_named paths.now name.now) result (C.tree calls.new) }
 {
     match rename_made(calls, paths, file, name) {
         Ok(()) => Ok(()),
@@ -93,7 +93,7 @@ fn measure_kept<C: FileCalls>(
 ) -> Result<u64, Denial>
     requires { KeptHolds (C.sound calls.old) C.File.opened (C.tree calls.old) (folder_of paths.now) handles.old }
     ensures tells { C.sound calls.new → C.sound calls.old × (C.tree calls.new ≡ C.tree calls.old)
-        × TellsFileSize (C.tree calls.old).directory (path_in paths.now name.now) (answered result)
+        × TellsFileSize (C.tree calls.old).directory (path_named paths.now name.now) (answered result)
         (C.tree calls.old).directory }
     ensures kept { KeptHolds (C.sound calls.new) C.File.opened (C.tree calls.new) (folder_of paths.now) handles.new }
 {
@@ -115,7 +115,7 @@ pub fn size_of<C: FileCalls>(
 ) -> Result<u64, Denial>
     requires { KeptHolds (C.sound calls.old) C.File.opened (C.tree calls.old) (folder_of paths.now) handles.old }
     ensures tells { C.sound calls.new → C.sound calls.old × (C.tree calls.new ≡ C.tree calls.old)
-        × TellsFileSize (C.tree calls.old).directory (path_in paths.now name.now) (answered result)
+        × TellsFileSize (C.tree calls.old).directory (path_named paths.now name.now) (answered result)
         (C.tree calls.old).directory }
     ensures kept { KeptHolds (C.sound calls.new) C.File.opened (C.tree calls.new) (folder_of paths.now) handles.new }
 {
@@ -248,7 +248,7 @@ pub fn append_kept<C: FileCalls>(
 ) -> Result<(), Denial>
     requires { KeptHolds (C.sound calls.old) C.File.opened (C.tree calls.old) (folder_of paths.now) handles.old }
     ensures appends { C.sound calls.new → C.sound calls.old
-        × AppendsTo (C.tree calls.old).directory (path_in paths.now name.now) bytes.now (answered result)
+        × AppendsTo (C.tree calls.old).directory (path_named paths.now name.now) bytes.now (answered result)
         (C.tree calls.new).directory }
     ensures kept { KeptHolds (C.sound calls.new) C.File.opened (C.tree calls.new) (folder_of paths.now) handles.new }
 {
@@ -267,7 +267,7 @@ fn cut_watched<C: FileCalls>(
     len: u64,
 ) -> Result<(), Denial>
     ensures { C.sound calls.new → C.sound calls.old
-        × Cuts (C.tree calls.old) (C.File.opened changed.now.file) len result (C.tree calls.new) }
+        × Truncates (C.tree calls.old) (C.File.opened changed.now.file) len result (C.tree calls.new) }
 {
     let found = calls.fstat(&changed.file)?;
     watch.check(paths, changed.name.as_str(), &found)?;
@@ -291,7 +291,7 @@ pub fn cut_kept<C: FileCalls>(
 ) -> Result<(), Denial>
     requires { KeptHolds (C.sound calls.old) C.File.opened (C.tree calls.old) (folder_of paths.now) handles.old }
     ensures cuts { C.sound calls.new → C.sound calls.old
-        × CutsTo (C.tree calls.old).directory (path_in paths.now name.now) len (answered result)
+        × CutsTo (C.tree calls.old).directory (path_named paths.now name.now) len (answered result)
         (C.tree calls.new).directory }
     ensures kept { KeptHolds (C.sound calls.new) C.File.opened (C.tree calls.new) (folder_of paths.now) handles.new }
 {
@@ -340,7 +340,7 @@ fn flush_anew<C: FileCalls>(
     name: &str,
 ) -> Result<(), Denial>
     ensures flushes { C.sound calls.new → C.sound calls.old
-        × FlushesFile (C.tree calls.old).directory (path_in paths.now name.now) (answered result)
+        × FlushesFile (C.tree calls.old).directory (path_named paths.now name.now) (answered result)
         (C.tree calls.new).directory }
     ensures others { (handles.new.changed ≡ handles.old.changed) × (handles.new.names ≡ handles.old.names) }
 {
@@ -361,7 +361,7 @@ pub fn flush_kept<C: FileCalls>(
 ) -> Result<(), Denial>
     requires { KeptHolds (C.sound calls.old) C.File.opened (C.tree calls.old) (folder_of paths.now) handles.old }
     ensures flushes { C.sound calls.new → C.sound calls.old
-        × FlushesFile (C.tree calls.old).directory (path_in paths.now name.now) (answered result)
+        × FlushesFile (C.tree calls.old).directory (path_named paths.now name.now) (answered result)
         (C.tree calls.new).directory }
     ensures kept { KeptHolds (C.sound calls.new) C.File.opened (C.tree calls.new) (folder_of paths.now) handles.new }
 {

@@ -33,7 +33,7 @@ pub use exact_listing::ChangeTime;
 pub use file::{HostFile, new_files_keep_bytes};
 pub use file_folder::{FileFolder, FolderState, NewFile};
 pub use host::{CallsFolder, HostFolder};
-pub use host_calls::{HostCalls, HostMade};
+pub use host_calls::HostCalls;
 pub use host_folders::{CallsFolders, HostFolders};
 pub use laws::{mail_can_lose_power, power_leaves, readers_move};
 pub use mail_folders::{FoundNames, MailFolders, Sought};

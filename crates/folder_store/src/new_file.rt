@@ -6,10 +6,10 @@ ghost use Rattle.folder_store.specs.Calls.{answered, WritesSome};
 
 use crate::calls::MadeHandle;
 use crate::file_folder::NewFile;
-use crate::host_calls::HostMade;
 use mail_store::StoreFault;
 use std::io::{self, ErrorKind};
-use system_calls::{Denial, Refusals};
+use std::rt::Files;
+use system_calls::{Denial, OpenAt, Refusals};
 
 /// A file that was made, and what notes why it can't be written.
 #[derive(Drop)]
@@ -19,7 +19,7 @@ pub struct CallsNewFile<'a, M> {
 }
 
 /// A file of the machine's file system that was made.
-pub type HostNewFile<'a, R> = CallsNewFile<'a, HostMade<'a, R>>;
+pub type HostNewFile<'a, R> = CallsNewFile<'a, OpenAt<<R as Files>::File>>;
 
 /// A device's answer. Why it is a refusal is kept.
 pub fn answer_of<T>(refusals: &Refusals, answer: Result<T, Denial>) -> Result<T, StoreFault>

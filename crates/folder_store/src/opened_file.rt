@@ -2,10 +2,20 @@
 
 ghost use Rattle.std.specs.Prelude.{◌≡◌, ◌<◌, ◌≤◌, length, take, IfErr, IfOk, IfSome, OnOk};
 ghost use Rattle.folder_store.specs.{
-  Calls.{Fills, FillsWhole, IsAbsent, MeasuresOpened, OpensFound, OpensRegular, ReadsOpened, ReadsPieceOpened, ReadsSome},
+  Calls.{
+    Fills,
+    FillsWhole,
+    IsAbsent,
+    MeasuresOpened,
+    OpensFound,
+    OpensRegular,
+    ReadsOpened,
+    ReadsPieceOpened,
+    ReadsSome,
+  },
   Calls.answered,
   FileFolder.{MeasuresFile, ReadsFile, ReadsPiece, TellsFileSize},
-  HostPaths.path_in,
+  HostPaths.path_named,
 };
 
 use crate::calls::{Access, FileCalls, FileKind, OpenHandle};
@@ -21,8 +31,8 @@ pub const IRREGULAR: &str = "not a regular file";
 
 pub const LEADS_NOWHERE: &str = "a link that leads nowhere";
 
-/// Opens a regular file, or one that a link leads to; None if it is a folder. Nothing else is opened: a pipe that nobody
-/// writes to would be waited for.
+/// Opens a regular file, or one that a link leads to; None if it is a folder. Nothing else is opened: a pipe that
+/// nobody writes to would be waited for.
 pub fn open_found<C: FileCalls>(
     calls: &mut C,
     paths: &HostPaths<'_>,
@@ -30,7 +40,7 @@ pub fn open_found<C: FileCalls>(
     access: Access,
 ) -> Result<Option<C::File>, Denial>
     ensures { C.sound calls.new → C.sound calls.old × (C.tree calls.new ≡ C.tree calls.old)
-        × OpensFound C.File.opened (C.tree calls.old) (path_in paths.now name.now) result }
+        × OpensFound C.File.opened (C.tree calls.old) (path_named paths.now name.now) result }
 {
     let path = paths.path_of(name)?;
     match calls.stat(path.as_str()) {
@@ -59,7 +69,7 @@ fn folder_fault<C: FileCalls>(
     access: Access,
 ) -> Result<C::File, Denial>
     ensures { C.sound calls.new → C.sound calls.old × (C.tree calls.new ≡ C.tree calls.old)
-        × OpensRegular C.File.opened (C.tree calls.old) (path_in paths.now name.now) result }
+        × OpensRegular C.File.opened (C.tree calls.old) (path_named paths.now name.now) result }
 {
     let path = paths.path_of(name)?;
     let mut folder = calls.open(path.as_str(), access)?;
@@ -75,7 +85,7 @@ pub fn open_regular<C: FileCalls>(
     access: Access,
 ) -> Result<C::File, Denial>
     ensures { C.sound calls.new → C.sound calls.old × (C.tree calls.new ≡ C.tree calls.old)
-        × OpensRegular C.File.opened (C.tree calls.old) (path_in paths.now name.now) result }
+        × OpensRegular C.File.opened (C.tree calls.old) (path_named paths.now name.now) result }
 {
     match open_found(calls, paths, name, access)? {
         Some(file) => Ok(file),
@@ -251,7 +261,7 @@ pub fn read_all<C: FileCalls>(
     name: &str,
 ) -> Result<Vec<u8>, Denial>
     ensures { C.sound calls.new → C.sound calls.old × (C.tree calls.new ≡ C.tree calls.old)
-        × ReadsFile (C.tree calls.old).directory (path_in paths.now name.now) (answered result)
+        × ReadsFile (C.tree calls.old).directory (path_named paths.now name.now) (answered result)
         (C.tree calls.old).directory }
 {
     let mut file = open_regular(calls, paths, name, Access::Read)?;
@@ -266,7 +276,7 @@ pub fn read_edges<C: FileCalls>(
     name: &str,
 ) -> Result<Edges, Denial>
     ensures { C.sound calls.new → C.sound calls.old × (C.tree calls.new ≡ C.tree calls.old)
-        × MeasuresFile (C.tree calls.old).directory (path_in paths.now name.now) (answered result)
+        × MeasuresFile (C.tree calls.old).directory (path_named paths.now name.now) (answered result)
         (C.tree calls.old).directory }
 {
     let mut file = open_regular(calls, paths, name, Access::Read)?;
@@ -285,7 +295,7 @@ pub fn read_piece<C: FileCalls>(
 ) -> Result<usize, Denial>
     ensures within { IfOk result (λ count. count ≤ length buf.new) }
     ensures reads { C.sound calls.new → C.sound calls.old × (C.tree calls.new ≡ C.tree calls.old)
-        × ReadsPiece (C.tree calls.old).directory (path_in paths.now name.now) start (answered result) buf.new
+        × ReadsPiece (C.tree calls.old).directory (path_named paths.now name.now) start (answered result) buf.new
         (C.tree calls.old).directory }
 {
     let mut file = open_regular(calls, paths, name, Access::Read)?;
@@ -299,7 +309,7 @@ pub fn measure<C: FileCalls>(
     name: &str,
 ) -> Result<u64, Denial>
     ensures { C.sound calls.new → C.sound calls.old × (C.tree calls.new ≡ C.tree calls.old)
-        × TellsFileSize (C.tree calls.old).directory (path_in paths.now name.now) (answered result)
+        × TellsFileSize (C.tree calls.old).directory (path_named paths.now name.now) (answered result)
         (C.tree calls.old).directory }
 {
     let path = paths.path_of(name)?;

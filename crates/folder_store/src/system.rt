@@ -9,7 +9,7 @@ use std::path::PathBuf;
 use std::rt::Files;
 use std::time::{Clock, SystemTime};
 use std::{fs, io};
-use system_calls::{Denial, Noted, System};
+use system_calls::{Denial, OpenAt, System};
 
 /// How many seconds nothing is written to a file before it counts as left behind. A run at work waits
 /// for the server for three minutes at most.
@@ -20,15 +20,15 @@ const MOST_LINKS: u32 = 40;
 
 /// Flushes the names of a folder to the disk. False if the system flushes no folders, which is no
 /// fault.
-pub fn flush_folder<F: OpenFile>(folder: &Noted<'_, F>) -> Result<bool, Denial> {
-    match folder.sync_all() {
+pub fn flush_folder<F: OpenFile>(folder: &OpenAt<F>) -> Result<bool, Denial> {
+    match folder.asked("fsync", folder.inner.sync_all()) {
         Err(fault)
             if matches!(
                 fault.kind(),
                 ErrorKind::InvalidInput | ErrorKind::Unsupported
             ) => Ok(false),
         answer => {
-            folder.at(answer)?;
+            answer?;
             Ok(true)
         }
     }

@@ -1,6 +1,6 @@
 use Rattle.std.proofs.Common.{◌≡◌, ◌≤◌, ◌+◌, ℕ, length, take}
 use Rattle.mail_store.specs.{Durable.{Blob}, FlatFile.{piece_at}}
-use Rattle.folder_store.specs.Calls.{Leads, IsFilled}
+use Rattle.folder_store.specs.Calls.{StillLeads, IsFilled}
 use Rattle.folder_store.proofs.opened_file.fill.Given as goal
 
 abbrev pub invariant-loop : goal.invariant-loop
