@@ -13,3 +13,4 @@ pub mod MailPower
 pub mod NewDevices
 pub mod PowerLoss
 pub mod Under
+pub mod Watch

@@ -93,8 +93,10 @@ pub trait FileCalls {
     // The files that its paths lead to.
     ghost tree: { Self → Tree };
 
-    // The premise: so far the system did what its calls promise, and nobody else changed these files. If it holds after
-    // a call, it held before.
+    // The premise: so far the system did what its calls promise, and nobody else changed these files. It was asked for
+    // each file by one path, written in one way, and for no file in a folder within one whose names it flushes:
+    // fsync(2) of a folder is of its own names alone. A file that was made was neither written nor put once it had a
+    // name, nor put after a flush of it was refused, which Linux tells once. If it holds after a call, it held before.
     ghost sound: { Self → Type 0 };
 
     /// open(2) with O_CREAT, O_EXCL and O_WRONLY, for the owner alone.

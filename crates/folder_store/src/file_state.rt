@@ -1,6 +1,7 @@
 //! Whether a file is as this process left it.
 
-ghost use Rattle.std.specs.Prelude.{◌≡◌, ◌↔◌, ◌+◌, IsTrue};
+ghost use Rattle.std.specs.Prelude.{◌≡◌, ◌↔◌, IsTrue};
+ghost use Rattle.folder_store.specs.Watch.{Grew, file_state_of};
 
 use crate::calls::FileStat;
 use crate::exact_listing::ChangeTime;
@@ -17,7 +18,7 @@ pub struct FileState {
 impl FileState {
     /// The state of the file that the system reports this of.
     pub fn of(file: &FileStat) -> FileState
-        ensures { result.size ≡ file.now.len }
+        ensures { result ≡ file_state_of file.now }
     {
         FileState {
             device: file.device,
@@ -29,8 +30,7 @@ impl FileState {
 
     /// Whether it is the same file, of `more` octets more than in the other state.
     pub fn grew_by(self, old: FileState, more: u64) -> bool
-        ensures { IsTrue result
-            ↔ (self.device ≡ old.device) × (self.inode ≡ old.inode) × (self.size ≡ old.size + more) }
+        ensures { IsTrue result ↔ Grew old self more }
     {
         self.device == old.device
             && self.inode == old.inode

@@ -1,7 +1,7 @@
 //! Whether a watched file is as this process left it.
 
-ghost use Rattle.std.specs.Prelude.{IfErr};
-ghost use Rattle.folder_store.specs.Calls.{IsAbsent};
+ghost use Rattle.std.specs.Prelude.{◌≡◌, IfErr, None, Some, if◌then◌else◌, is_some};
+ghost use Rattle.folder_store.specs.{Calls.IsAbsent, Watch.{ChecksLeft, NotesLeft, file_state_of}};
 
 use crate::calls::FileStat;
 use crate::file_state::FileState;
@@ -21,7 +21,9 @@ pub struct Watch {
 
 impl Watch {
     /// Nothing was seen yet.
-    pub fn new(watches: bool) -> Watch {
+    pub fn new(watches: bool) -> Watch
+        ensures { result ≡ record { watches = watches; left = None } }
+    {
         Watch {
             watches,
             left: None,
@@ -29,22 +31,31 @@ impl Watch {
     }
 
     /// Forgets how the file was left.
-    pub fn forget(&mut self) {
+    pub fn forget(&mut self)
+        ensures { self.new ≡ record self.old { left = None } }
+    {
         self.left = None;
     }
 
     /// Whether it is watched.
-    pub fn watches(&self) -> bool {
+    pub fn watches(&self) -> bool
+        ensures { result ≡ self.now.watches }
+    {
         self.watches
     }
 
     /// Whether a change is to be noted: the file was seen.
-    pub fn is_set(&self) -> bool {
+    pub fn is_set(&self) -> bool
+        ensures { result ≡ is_some self.now.left }
+    {
         self.left.is_some()
     }
 
     /// Takes note of how the file was left by this process itself, if it is watched.
-    pub fn leave(&mut self, found: &FileStat) {
+    pub fn leave(&mut self, found: &FileStat)
+        ensures { self.new ≡ (if self.old.watches
+            then record self.old { left = Some (file_state_of found.now) } else self.old) }
+    {
         if self.watches {
             self.left = Some(FileState::of(found));
         }
@@ -57,7 +68,9 @@ impl Watch {
         name: &str,
         found: &FileStat,
     ) -> Result<(), Denial>
-        ensures { IfErr result (λ d. IsAbsent d → ⊥) }
+        ensures fault { IfErr result (λ d. IsAbsent d → ⊥) }
+        ensures checks { ChecksLeft self.old.watches self.old.left (file_state_of found.now) result self.new.left }
+        ensures watches { self.new.watches ≡ self.old.watches }
     {
         if !self.watches {
             return Ok(());
@@ -78,7 +91,10 @@ impl Watch {
         name: &str,
         found: &FileStat,
         more: u64,
-    ) -> Result<(), Denial> {
+    ) -> Result<(), Denial>
+        ensures notes { NotesLeft self.old.left (file_state_of found.now) more result self.new.left }
+        ensures watches { self.new.watches ≡ self.old.watches }
+    {
         let Some(left) = self.left else {
             return Ok(());
         };
