@@ -1,15 +1,16 @@
 -- What parts of a session keep and do, one after the other, and QUIT at their end.
 use Rattle.std.{
   proofs.Common.{rules, ◌≡◌, ◌≤◌, ◌+◌, ◌*◌, ℕ, Bool, true, false, List, [], ◌∷◌, ◌++◌, length, None, Result, Ok, Err, IfErr, OnErr, OnOk},
-  proofs.Common.{refl, sym, ap, subst, ◌∙◌, inl, arith, append_assoc, length-append, Vec, Global, Option, inr},
+  proofs.Common.{◌⊎◌, refl, sym, ap, subst, ◌∙◌, inl, arith, append_assoc, length-append, Vec, Global, Option, inr},
   proofs.lemmas.{Grind.flat_map-append, Result.on_ok_weaker},
   specs.List.AllByRecursion,
 }
 use Rattle.mail_terms.{specs.{Listing.Item, FailureCount.Tallies}, proofs.ListLemmas.{all_append, all_front, both_none}}
 use Rattle.mail_store.specs.{
   declared.{file.flat_file.{FlatFile.Ghosts as FileGhosts, Edges.Edges}, maildir.disk.MaildirDisk.Ghosts as DiskGhosts},
+  Durable.{MayLeave, Trusted},
   FileName.stem_of,
-  Power.LeavesNoMore,
+  Power.{KeepsWhole, LeavesNoMore},
   FlatFile.Stored,
   Maildir.{AllNamed, Maildir},
 }
@@ -24,10 +25,13 @@ use Rattle.pop3_client.specs.{
 use Rattle.fetch_session.{
   specs.declared.{fault.{Fault.Fault, Cut.Cut}, report.ReportLine.ReportLine, work.{Ledger.Ledger, Work.Work}, account.Store.Store},
   specs.{Report.AddsLines, Store.MayGain, Tail.tail, Fault.{cut_of, fault_of}, Record.{Steady, record_state}},
-  specs.{Refusal.{Took, TookTillCut, TookWithTail, step_limit, tail_limit}, Scene.{TakesTask, scene, Stops}},
-  specs.Durable.{AreLeft, DurableCut, DoesDurably, IsSafeFile, IsSafeStore, IsSafeWork, IsGrownAtMost, KeepsWork, LeavesFile, may_leave_in},
+  specs.{Refusal.{Took, TookTillCut, TookWithTail, step_limit, tail_limit}, Scene.{TakesTask, WhereAllSound, scene, Stops}},
+  specs.Durable.{AreLeft, DurableCut, DoesDurably, IsCutLeft, IsSafeFile, IsSafeStore, IsSafeWork, IsGrownAtMost, KeepsWork, LeavesBoth},
+  specs.Durable.{LeavesFile, OneDurable, StillDurable, may_leave_in},
   specs.Parts.{RunsTasks, IsReadyFor, KeepsLedger, KeepsLink, KeepsStore, IsReadyForNext, IsWritten, WhereWorkSound, scene_of},
-  specs.{Target.{Target, is_sound, kind_of, stores_of, target_of, Kind, Files, Entries, Stores, target}, Mbox.{IsToldOfMbox, LooksAgain}},
+  specs.Parts.{over_maildir, over_mbox},
+  specs.Target.{Target, AsFiles, AsEntries, is_sound, kind_of, stores_of, target_of, Kind, Files, Entries, Stores, target},
+  specs.Mbox.{IsToldOfMbox, LooksAgain},
   specs.Task.{Task, stores, ids_in, ids_ahead, turns_in, turns_ahead, AreFresh, fetching, deleting, tasks_in, tasks_planned, says},
   proofs.ReadyLemmas.{fetched_all, OneMore, ahead, fresh_grows},
   proofs.TalkLemmas.{most_tail, takes_on, took_broke, took_less, took_nothing, with_tail_on, cut_by, till_cut},
@@ -51,7 +55,7 @@ pub if_err : {T E : Type 0} {P : E → Type 0} (result : Result T E) → ((fault
 if_err (Ok _) _ = tt
 if_err (Err fault) all = all fault
 
-pub err_if : {T E : Type 0} (P : Type 0) (result : Result T E) → OnErr result P → IfErr result (λ fault. P)
+err_if : {T E : Type 0} (P : Type 0) (result : Result T E) → OnErr result P → IfErr result (λ fault. P)
 err_if P (Ok _) p = tt
 err_if P (Err _) p = p
 
@@ -403,6 +407,64 @@ module _ {D F H Z : Type 0} {disk : DiskGhosts D} {file : FileGhosts F} where
         (λ safe. if_err r (λ cut. nothing_cut disk file (target_of work.store account) task (place_of link client) _ _ cut _
         work.store work.store work.ledger.file safe.1 (λ left may. may) safe.0 steady))),
   )
+
+-- a text that was to be stored in a Maildir
+pub record Filed {W D F H Z : Type 0} (link : WireGhosts W) (disk : DiskGhosts D) (file : FileGhosts F) (account : List ℕ)
+    (number : ℕ) (uid : List ℕ) (c : Client W) (d : D) (l : Ledger F H Z) (r : Result (Unit {0}) Cut) (c' : Client W) (d' : D)
+    (l' : Ledger F H Z) : Type 0 where
+  pub talk : KeepsLink link (TookTillCut (line_limit + text_limit)) c r c'
+  pub ledger : KeepsLedger file uid l r l'
+  pub grows : disk.sound d' → disk.sound d × MayGain (stem_of account uid) (disk.maildir d) (disk.maildir d')
+      × OnOk r (AllNamed (disk.maildir d').files)
+  pub takes : WhereAllSound link.sound link.leads_to disk.sound file.sound c.wire.now c'.wire.now d d' l.file l'.file
+      (TakesTask (AsFiles account) (stores number uid) (scene_of link disk file c (over_maildir d l)) r
+      (scene_of link disk file c' (over_maildir d' l')))
+  pub keeps : file.sound l'.file → (rows : List Row) → StillDurable file rows l.file l'.file
+  pub durable : disk.sound d' → file.sound l'.file → IsSafeFile file l.file → OnOk r (IsSafeFile file l'.file)
+      × OnErr r (LeavesFile file l'.file (AreLeft l.seen.rows l.seen.rows) ⊎ OneDurable (disk.maildir d) (disk.maildir d'))
+
+pub filed : {W D F H Z : Type 0} {link : WireGhosts W} {disk : DiskGhosts D} {file : FileGhosts F} {account : List ℕ}
+    {number : ℕ} {uid : List ℕ} {c : Client W} {d : D} {l : Ledger F H Z} {r : Result (Unit {0}) Cut} {c' : Client W} {d' : D}
+    {l' : Ledger F H Z} → OneMore → IsWritten file l → Filed link disk file account number uid c d l r c' d' l'
+    → RunsTasks link disk file account (stores number uid ∷ []) c (over_maildir d l) r c' (over_maildir d' l')
+filed {number = number} {uid} {l = l} {r} law written is =
+    runs_taking law number uid r written is.talk is.ledger refl is.grows is.takes (λ d f. (
+      (λ bytes has left. left, is.keeps f l.seen.rows),
+      λ safe.
+          let durable = is.durable d f safe.0 in
+          (on_ok_weaker r (λ all. (all, tt)) durable.0, λ s. err_if _ r durable.1),
+    ))
+
+-- a text that was to be appended to an mboxrd file
+pub record Entered {W D F H Z : Type 0} (link : WireGhosts W) (disk : DiskGhosts D) (file : FileGhosts F)
+    (number : ℕ) (uid : List ℕ) (c : Client W) (m : F) (l : Ledger F H Z) (r : Result (Unit {0}) Cut) (c' : Client W) (m' : F)
+    (l' : Ledger F H Z) : Type 0 where
+  pub talk : KeepsLink link (TookTillCut (line_limit + text_limit)) c r c'
+  pub ledger : KeepsLedger file uid l r l'
+  pub before : file.sound m' → file.sound m
+  pub takes : WhereAllSound link.sound link.leads_to file.sound file.sound c.wire.now c'.wire.now m m' l.file l'.file
+      (TakesTask AsEntries (stores number uid) (scene_of link disk file c (over_mbox m l)) r
+      (scene_of link disk file c' (over_mbox m' l')))
+  pub keeps : file.sound m' → file.sound l'.file
+      → KeepsWhole (file.stored m).content (MayLeave (file.disk m)) (MayLeave (file.disk m'))
+      × StillDurable file l.seen.rows l.file l'.file
+  pub durable : file.sound m' → file.sound l'.file → Trusted (file.disk m).now → IsSafeFile file l.file
+      → OnOk r (IsSafeFile file m' × IsSafeFile file l'.file) × (IsSafeFile file m → link.sound c'.wire.now
+      → IfErr r (λ cut. LeavesBoth file (file.stored m).content m' l'.file (IsCutLeft (stores number uid)
+      (scene_of link disk file c (over_mbox m l)) cut (scene_of link disk file c' (over_mbox m' l')))))
+
+pub entered : {W D F H Z : Type 0} {link : WireGhosts W} {disk : DiskGhosts D} {file : FileGhosts F} {number : ℕ}
+    {uid : List ℕ} {c : Client W} {m : F} {l : Ledger F H Z} {r : Result (Unit {0}) Cut} {c' : Client W} {m' : F}
+    {l' : Ledger F H Z} → OneMore → IsWritten file l → Entered link disk file number uid c m l r c' m' l' → (account : List ℕ)
+    → RunsTasks link disk file account (stores number uid ∷ []) c (over_mbox m l) r c' (over_mbox m' l')
+entered {number = number} {uid} {r = r} law written is account =
+    runs_taking law number uid r written is.talk is.ledger refl
+    (λ d. (is.before d, record { none_begun = refl; came = inl refl }, on_any r tt)) is.takes (λ d f. (
+      is.keeps d f,
+      λ safe.
+          let durable = is.durable d f safe.1.0 safe.0 in
+          (on_ok_weaker r (λ all. (all.1, all.0)) durable.0, durable.1 safe.1),
+    ))
 
 -- ---- what the look left
 

@@ -213,12 +213,22 @@ LeavesLeft files was added from f = (left : Option (List ℕ)) → MayLeave (fil
 abbrev pub LeavesStore : {D F : Type 0} → FileGhosts F → Store D F → Store D F → Type 0
 LeavesStore files was store = LeavesNoMore (may_leave_in files was) (may_leave_in files store)
 
+-- the bytes that an mboxrd file had are left
+abbrev pub KeepsMboxFile : {F : Type 0} → FileGhosts F → F → F → Type 0
+KeepsMboxFile files old new =
+    KeepsWhole (files.stored old).content (MayLeave (files.disk old)) (MayLeave (files.disk new))
+
 -- once an open intent was settled in it, or while it was, this is left of it: what could be left before, or that cut
 -- back to the intent's place
 abbrev pub LeavesSettled : Option Intent → Option (List ℕ) → (Option (List ℕ) → Type 0) → (Option (List ℕ) → Type 0)
     → Type 0
 LeavesSettled None content may_leave may_leave' = LeavesNoMore may_leave may_leave'
 LeavesSettled (Some intent) content may_leave may_leave' = LeavesCut content intent.start may_leave may_leave'
+
+-- the same of a store
+abbrev pub LeavesSettledIn : {D F : Type 0} → FileGhosts F → Option Intent → Store D F → Store D F → Type 0
+LeavesSettledIn files intent was store =
+    LeavesSettled intent (mbox_of files was).content (may_leave_in files was) (may_leave_in files store)
 
 -- what a session leaves of both files that was cut while it prepared the record: no more than before, or the record
 -- that was read and a settled mboxrd file; or what a merge leaves, and the settled file. Unless no intent was open, the
@@ -229,8 +239,7 @@ abbrev pub DurableUnready : {D F : Type 0} → FileGhosts F → Store D F → F
     → Type 0
 DurableUnready files was from (inl same) store' f = LeavesNoMore (MayLeave (files.disk from)) (MayLeave (files.disk f))
     × (LeavesStore files was store' ⊎ (IsSafeFile files f × ((state : RecordState)
-    × Keeps (files.stored f).content state × LeavesSettled state.intent (mbox_of files was).content
-    (may_leave_in files was) (may_leave_in files store'))))
+    × Keeps (files.stored f).content state × LeavesSettledIn files state.intent was store')))
 DurableUnready files was from {target} {items} {now} {store} {file} (inr merged) store' f =
     let rows = merged_in target store merged.was items now in
     ((merged.was.intent ≡ None) × LeavesMerged (MayLeave (files.disk from)) merged.was rows (MayLeave (files.disk f))

@@ -1,5 +1,5 @@
 -- What a listener is told of a session's plan.
-use Rattle.std.specs.Prelude.{◌≡◌, ◌⊎◌, ℕ, Bool, List, [], ◌∷◌, ◌++◌, length, Ok}
+use Rattle.std.specs.Prelude.{◌≡◌, ◌⊎◌, ℕ, Bool, List, [], ◌∷◌, ◌++◌, length, Result, Ok}
 use Rattle.mail_terms.specs.Listing.{Item}
 use Rattle.mail_store.specs.declared.{
   file.flat_file.FlatFile.Ghosts as FileGhosts,
@@ -13,11 +13,13 @@ use Rattle.fetch_session.specs.{
   Account.{Holding, digits_of},
   Readiness.merged_in,
   Record.Keeps,
+  Refusal.TookWithTail,
   Report.skips_planned,
   Session.Enters_with,
   Target.{AfterTakingIn, Kind, MayBeOdd, is_sound, kind_of, odd_in, stores_of, target_of},
-  declared.{account.Store.Store, report.{Report.Report, Skips.Skips}},
+  declared.{account.Store.Store, fault.Cut.Cut, report.{Report.Report, Skips.Skips}, terms.Terms.Terms, work.Work.Work},
 }
+use Rattle.pop3_client.specs.{Client.place_of, declared.client.Client.Client}
 
 -- what a report says of messages that were passed over
 abbrev pub passed_over : Report → Skips
@@ -45,6 +47,21 @@ AreMerged disk files settings account now store file store' file' items rows pla
     (was : RecordState) × Keeps (files.stored file).content was
     × (rows ≡ merged_in (target_of store account) left was items now)
     × (plan ≡ planned settings (odd_in (target_of store account) left) rows items now))
+
+-- it is what is planned for a listing of which this holds, of which so many messages are listed and these passed over,
+-- by what is worked on
+abbrev pub IsPlanFor : {D F H Z : Type 0} → DiskGhosts D → FileGhosts F → Terms → Work D F H Z → ℕ → Skips
+    → Work D F H Z → (List Item → Type 0) → List Step → Type 0
+IsPlanFor disk files terms old total skipped new IsListed plan =
+    IsPlanned (kind_of old.store) terms.settings.now terms.now total skipped (λ items rows steps.
+    IsListed items × AreMerged disk files terms.settings.now terms.account.now terms.now old.store old.ledger.file
+    new.store new.ledger.file items rows steps) plan
+
+-- it is the listing that came, and at most so much was taken after it
+abbrev pub IsListedBefore : {W : Type 0} → WireGhosts W → Settings → ℕ → Client W → Result (Unit {0}) Cut → Client W
+    → List Item → Type 0
+IsListedBefore link settings limit client result client' items = link.sound client'.wire.now → (mid : Place)
+    × Enters_with settings (place_of link client) (Ok items) mid × TookWithTail limit mid result (place_of link client')
 
 -- it is the listing that the server gave
 abbrev pub IsServersListing : Settings → Link → Link → List Item → Type 0

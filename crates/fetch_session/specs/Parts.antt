@@ -1,6 +1,6 @@
 -- What each part of a session is ready for, what it keeps, and what it does.
 use Rattle.std.specs.{Prelude.{◌≡◌, ℕ, true, List, [], ◌++◌, length, None, Result, OnOk}, List.AllByRecursion}
-use Rattle.mail_terms.specs.UniqueId.{IsLegalId}
+use Rattle.mail_terms.specs.{Listing.Item, UniqueId.IsLegalId}
 use Rattle.mail_store.specs.{
   declared.{file.flat_file.FlatFile.Ghosts as FileGhosts, maildir.disk.MaildirDisk.Ghosts as DiskGhosts},
   FileName.IsAccountText,
@@ -13,13 +13,17 @@ use Rattle.pop3_client.specs.{
   declared.client.Client.Client,
 }
 use Rattle.fetch_session.specs.{
-  declared.{fault.{Fault.Fault, Cut.Cut}, work.{Ledger.Ledger, Work.Work}},
+  declared.{account.Store.TheVariants.{Maildir, Mboxrd}, fault.{Fault.Fault, Cut.Cut}, report.Skips.Skips},
+  declared.{one_session.Counts.Counts, readiness.Ready.Ready, terms.Terms.Terms, work.{Ledger.Ledger, Work.Work}},
   declared.step.Task.{Task as Planned, TheVariants.{Store, Reread, Skip}},
-  Durable.{AreLeft, DoesDurably, IsSafeFile, IsSafeWork, LeavesFile, LeavesStore},
+  CarryingOut.Carries,
+  Durable.{AreLeft, DoesDurably, DurableCarries, DurableProceeds, IsSafeFile, IsSafeWork, LeavesFile, LeavesStore},
+  Durable.ReadiesDurably,
   Record.{Steady, record_state_in},
   Refusal.{RefusesTillCut, TookTillCut},
   Report.{AddsLines, HasRoom},
-  Target.{is_sound, kind_of, stores_of, target_of, NoneBegun},
+  Session.{Proceeds, keeping, noted},
+  Target.{AfterTakingIn, is_sound, kind_of, stores_of, target_of, NoneBegun},
   Task.{Task, skips, stores, rereads, ids_ahead, turns_ahead, AreFresh},
   Scene.{Scene, scene, WhereAllSound},
 }
@@ -30,6 +34,13 @@ abbrev pub scene_of : {W D F H Z : Type 0} → WireGhosts W → DiskGhosts D →
     → Work D F H Z → Scene
 scene_of link disk file client work = scene (place_of link client) (stores_of disk file work.store)
     (file.stored work.ledger.file) work.ledger.seen.rows work.ledger.lines.items
+
+-- what is worked on over a Maildir, and over an mboxrd file
+abbrev pub over_maildir : {D F H Z : Type 0} → D → Ledger F H Z → Work D F H Z
+over_maildir disk ledger = record { store = Maildir disk; ledger = ledger }
+
+abbrev pub over_mbox : {D F H Z : Type 0} → F → Ledger F H Z → Work D F H Z
+over_mbox mbox ledger = record { store = Mboxrd mbox; ledger = ledger }
 
 -- no intent is open, and the record's file stands for the rows, with no torn end
 pub record IsWritten {F H Z : Type 0} (file : FileGhosts F) (ledger : Ledger F H Z) : Type 0 where
@@ -148,3 +159,33 @@ RunsTasks link disk file account tasks client work result client' work' =
     KeepsSession link disk file account tasks client work result client' work'
     × WhereWorkSound link disk file client work client' work' (λ old new. DoesDurably file (IsSafeWork file work)
     (target_of work.store account) tasks old result new work'.store work'.ledger.file)
+
+-- the record was made ready, or wasn't, after readers took what they took; and if this premise holds, this is left
+abbrev pub ReadiesWork : {D F H Z : Type 0} → DiskGhosts D → FileGhosts F → Type 0 → Terms → List Item → Work D F H Z
+    → Result Ready Fault → Work D F H Z → Type 0
+ReadiesWork disk file safe terms items work result work' =
+    is_sound disk file work'.store → file.sound work'.ledger.file
+    → is_sound disk file work.store × file.sound work.ledger.file
+    × AfterTakingIn (stores_of disk file work.store) (λ left. ReadiesDurably disk file safe work.store work.ledger.file
+    terms.settings.now (target_of work.store terms.account.now) items terms.now left result work'.ledger.seen.rows
+    work'.store work'.ledger.file)
+
+-- a listing's steps were prepared and carried out, or as far as went well, after readers took what they took; and what
+-- of it is durable
+abbrev pub RunsListing : {W D F H Z : Type 0} → WireGhosts W → DiskGhosts D → FileGhosts F → Terms → List Item
+    → Client W → Work D F H Z → Result (Unit {0}) Cut → Client W → Work D F H Z → Skips → Type 0
+RunsListing link disk file terms items client work result client' work' skipped =
+    WhereWorkSound link disk file client work client' work' (λ old new. AfterTakingIn old.store (λ left.
+    (is : Carries terms.settings.now (target_of work.store terms.account.now) items terms.now old.place left old.file
+    old.lines result new.place new.store new.file new.lines skipped)
+    × DurableCarries file work.store work.ledger.file _ _ _ _ _ _ _ _ _ _ _ _ _ _ is work'.store
+    work'.ledger.file))
+
+-- the same of a session up to its QUIT, or until it was cut
+abbrev pub RunsTillCut : {W D F H Z : Type 0} → WireGhosts W → DiskGhosts D → FileGhosts F → Terms → Client W
+    → Work D F H Z → Result (Unit {0}) Cut → Client W → Work D F H Z → Counts → Type 0
+RunsTillCut link disk file terms client work result client' work' counts =
+    WhereWorkSound link disk file client work client' work' (λ old new. AfterTakingIn old.store (λ left.
+    (is : Proceeds terms.settings.now (target_of work.store terms.account.now) terms.now old.place
+    (keeping left old.file) result new.place (keeping new.store new.file) (noted counts.total counts.skipped new.lines))
+    × DurableProceeds file work.store work.ledger.file _ _ _ _ _ _ _ _ _ is work'.store work'.ledger.file))

@@ -1,10 +1,12 @@
 -- What a session has ready before its first task, or why it isn't ready.
 use Rattle.std.specs.{
-  Prelude.{◌≡◌, ◌⊎◌, ◌<◌, ℕ, Bool, true, false, All, List, length, map, not, Option, None, Some, Result, Ok, Err},
+  Prelude.{◌≡◌, ◌≢◌, ◌⊎◌, ◌<◌, ℕ, Bool, true, false, All, List, [], length, map, not, Option, None, Some},
+  Prelude.{Result, Ok, Err},
   List.AllByRecursion,
 }
 use Rattle.mail_terms.specs.Listing.{Item}
 use Rattle.fetch_record.specs.{
+  Intents.closed_rows,
   Record.{Row, RecordState, IsRecord, Loaded, has_row, is_delivered, none_open, merged},
   RecordFile.file_of,
 }
@@ -15,16 +17,18 @@ use Rattle.fetch_session.specs.{
   declared.fault.Why.TheVariants.{Missing, Refused, NotMbox},
   declared.readiness.{Found.Found, Ready.Ready},
   Mbox.{AsksMbox, IsSettledAtMost},
-  Record.{Keeps, Steady, Misread, FileReadAs},
+  Record.{Keeps, Steady, Misread, FileReadAs, bytes_in},
   Target.{Kind, Files, Entries, MayBeOdd, Target, AsFiles, AsEntries, Stores, closed_file, held_flags, odd_in},
-  Target.{in_maildir, none_held, closed_rows_in},
+  Target.{in_maildir, none_held, closed_rows_in, stores_of, target_of},
+  declared.account.Store.Store,
 }
 use Rattle.rc_file.specs.declared.settings.Settings.{Settings}
 use Rattle.mail_store.specs.{
   FlatFile.{Stored, holding},
   Maildir.{AllNamed, Maildir},
   Mboxrd.MayGoOn,
-  declared.fault.StoreFault.StoreFault,
+  declared.{fault.StoreFault.StoreFault, file.flat_file.FlatFile.Ghosts as FileGhosts},
+  declared.maildir.disk.MaildirDisk.Ghosts as DiskGhosts,
   MboxCalls.ChecksMbox,
   Held.{AreById, FoundDurable, flags_asked, odd_flags},
 }
@@ -88,6 +92,15 @@ abbrev pub merged_in : Target → Stores → RecordState → List Item → ℕ �
 merged_in target store was items now = merged (closed_rows_in target store was items) items
     (held_flags target store items) now
 
+-- the same of a record that was read and of what was found
+abbrev pub taken_in : Loaded → Found → List Item → ℕ → List Row
+taken_in seen found items now = merged (closed_rows found.stored seen.rows seen.intent) items found.held.items now
+
+-- a file was read as this record, and whether it is missing or empty is said
+pub record IsAsRead {F : Type 0} (file : FileGhosts F) (f : F) (seen : Loaded) (is_new : Bool) : Type 0 where
+  pub stands : file.sound f → FileReadAs (file.stored f).content seen
+  pub begun : file.sound f → is_new ≡ false → bytes_in (file.stored f).content ≢ []
+
 -- what the store holds can change neither the record nor what is done: each listed id is recorded as delivered, the
 -- steps that are planned, whatever is odd, neither fetch nor delete anything, and no intent is open
 pub record IsIdle (settings : Settings) (seen : Loaded) (items : List Item) (now : ℕ) (steps : List Step) : Type 0 where
@@ -133,6 +146,12 @@ ChecksIdle Entries old items (Err fault) new = AsksMbox None old.mbox items (Err
 -- the flags are those of the store, as far as the steps use them
 abbrev pub AreAsHeld : List Step → List Item → List Bool → List Bool → Type 0
 AreAsHeld steps items flags held = tasks_planned steps items flags ≡ tasks_planned steps items held
+
+-- the same of what is ready, and of the store once it was asked
+abbrev pub IsHeldAsIn : {D F : Type 0} → DiskGhosts D → FileGhosts F → Store D F → List ℕ → List Item → Ready
+    → Store D F → Type 0
+IsHeldAsIn disk file was account items ready store = AreAsHeld ready.steps.items items ready.held.items
+    (held_flags (target_of was account) (stores_of disk file store) items)
 
 -- some ids, in an mboxrd file none, are odd: by them each listed message has a step of the plan; it has a flag, and
 -- each listed id a row; no intent is open

@@ -32,6 +32,13 @@ opening_limit = 6 * line_limit + 2 * (line_limit * (message_limit + 1))
 abbrev pub tail_limit : ℕ
 tail_limit = 2 * line_limit
 
+-- for all that follows a listing of so many messages; and for the opening before it too
+abbrev pub listed_limit : ℕ → ℕ
+listed_limit messages = messages * step_limit + tail_limit
+
+abbrev pub parts_limit : ℕ → ℕ
+parts_limit messages = opening_limit + listed_limit messages
+
 -- at most `limit` octets were used of what waited and was got
 pub record Took (limit : ℕ) (old new : Place) : Type 0 where
   pub gained : List ℕ

@@ -6,8 +6,8 @@ use Rattle.std.specs.{
 use Rattle.mail_store.specs.{
   FlatFile.Stored,
   Mboxrd.entry_of,
-  FileName.sized_file,
-  Maildir.{Maildir, File, Draft, MayHave, draft, mail, with_file, dropped, maildir_refused},
+  FileName.{sized, sized_file},
+  Maildir.{AllNamed, IsThere, Maildir, File, Draft, MayHave, draft, mail, with_file, dropped, maildir_refused},
 }
 use Rattle.fetch_session.specs.{
   Target.{Target, AsFiles, AsEntries, Stores},
@@ -16,15 +16,18 @@ use Rattle.fetch_session.specs.{
   Fault.Breaks,
 }
 use Rattle.pop3_wire.specs.{
+  Link.WhereSound,
   Place.Place,
   Bodies.Rest,
+  declared.wire.Wire.Ghosts as WireGhosts,
   Reading.WholeReply,
   declared.unstuffer.Spot.TheVariants.Done as AtEnd,
 }
 use Rattle.pop3_client.specs.{
+  Client.place_of,
   Conversation.{Talked, Broke},
   Turns.retr,
-  declared.fault.ClientFault.ClientFault,
+  declared.{client.Client.Client, fault.ClientFault.ClientFault},
   Texts.{Fetching, Fetched, body_text},
 }
 
@@ -56,6 +59,20 @@ pub record MayGain (stem : List ℕ) (old new : Maildir) : Type 0 where
       × (new.files ≡ old.files ++ record (sized_file stem content) { is_named = is_named } ∷ []))
 
 -- ---- a text, piece by piece
+
+-- a text may be stored in a Maildir under any name of this stem: no file is begun, none bears one, and each name there
+-- is durable
+pub record IsFreeFor (stem : List ℕ) (maildir : Maildir) : Type 0 where
+  pub none_begun : maildir.begun ≡ None
+  pub not_there : (size : ℕ) → IsThere maildir (sized stem size) → ⊥
+  pub named : AllNamed maildir.files
+
+-- what is known of the rest of a text that was taken from a link, if that is sound after it, of each text that was
+-- under way before
+abbrev pub TakesOn : {W : Type 0} → WireGhosts W → Client W → Rest → (ℕ → Place → Place → Type 0) → Client W → Type 0
+TakesOn link client body Does client' = WhereSound link.sound link.leads_to client.wire.now client'.wire.now
+    ((number : ℕ) (start : Place) → Fetching (retr number) start (place_of link client) body []
+    → Does number start (place_of link client'))
 
 -- this file is being written
 abbrev pub begun_with : Maildir → Draft → Maildir

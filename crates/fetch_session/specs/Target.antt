@@ -7,7 +7,7 @@ use Rattle.mail_store.specs.{
   FileName.is_odd,
   FlatFile.Stored,
   Held.flags_of,
-  Maildir.{Maildir, WereTaken},
+  Maildir.{AllNamed, Maildir, WereTaken},
   Settling.{listed_size, stands_whole, settled_file},
 }
 use Rattle.fetch_rules.specs.Wanted.{none_odd}
@@ -96,6 +96,10 @@ IsSoundMbox file (InMbox device) = file.sound device
 abbrev pub mbox_of : {D F : Type 0} → FileGhosts F → Store D F → Stored
 mbox_of file (InMaildir device) = no_mbox
 mbox_of file (InMbox device) = file.stored device
+
+-- each name in a Maildir is durable
+abbrev pub AreNamed : {D F : Type 0} → DiskGhosts D → FileGhosts F → Store D F → Type 0
+AreNamed disk file store = AllNamed (stores_of disk file store).maildir.files
 
 -- no file is being written
 abbrev pub NoneBegun : {D F : Type 0} → DiskGhosts D → FileGhosts F → Store D F → Type 0

@@ -1,34 +1,30 @@
 //! How a text is appended to an mboxrd file: it is read whole, its intent is written to the record,
 //! and then the entry is appended at once. If nothing of it came, its intent is closed again.
-ghost use Rattle.std.specs.Prelude.{◌≡◌, ◌≢◌, ℕ, List, [], None, true, IfErr, OnErr, OnOk};
-ghost use Rattle.fetch_record.specs.Record.{has_row, none_open};
+ghost use Rattle.std.specs.Prelude.{◌≡◌, ◌≢◌, ℕ, List, [], ◌∷◌, None, true, OnErr, OnOk};
+ghost use Rattle.fetch_record.specs.Record.{has_row};
 ghost use Rattle.mail_terms.specs.{Text.IsWhole, UniqueId.IsLegalId};
-ghost use Rattle.pop3_client.specs.{Client.{HasSameLink, place_of, link_of}, Texts.Fetching, Turns.{most, retr}};
-ghost use Rattle.pop3_wire.specs.{
-  Link.WhereSound,
-  Bodies.items_of,
-  Place.Place,
-  declared.unstuffer.Spot.TheVariants.Done,
-};
+ghost use Rattle.pop3_client.specs.Client.{HasSameLink, link_of};
+ghost use Rattle.pop3_wire.specs.{Bodies.items_of, declared.unstuffer.Spot.TheVariants.Done};
 ghost use Rattle.fetch_session.specs.{
   Mbox.{AppendsText, TakesText, IsStoreFault},
-  Durable.{IsCutLeft, IsEntryLeft, IsSafeFile, LeavesBoth, StillDurable},
-  Parts.{KeepsLedger, KeepsLink, KeepsRecord, IsWritten},
-  Record.Steady,
-  Refusal.{RefusesTillCut, TookTillCut},
+  Durable.{IsEntryLeft, IsSafeFile, KeepsMboxFile, LeavesBoth, StillDurable},
+  Parts.{IsWritten, KeepsRecord, RunsTasks, over_mbox},
+  Refusal.RefusesTillCut,
   Report.HasRoom,
-  Scene.{scene, TakesTask, WhereAllSound},
-  Target.{AsEntries, in_mbox},
+  Store.TakesOn,
   Task.stores,
 };
-ghost use Rattle.mail_store.specs.{Durable.{Trusted, MayLeave}, Power.KeepsWhole};
+ghost use Rattle.mail_store.specs.Durable.{Trusted};
 
 use crate::fault::{Cut, Fault};
 use crate::record::{intend, remember, take_back};
 use crate::report::{ReportLine, note};
 use crate::work::Ledger;
 use fetch_rules::marked_keeps_rows;
-use mail_store::{EntryFault, FlatFile, StoreFault, append_entry, entry_len, is_whole};
+use mail_store::{
+    EntryFault, FlatFile, MaildirDisk, StoreFault, append_entry, entry_len, is_whole,
+    one_more_is_held,
+};
 use pop3_client::{Client, conversations_are_paced};
 use pop3_wire::{BodyReader, PIECE_ROOM, Wire};
 use std::alloc::Global;
@@ -44,9 +40,8 @@ fn read_text<W: Wire>(
     requires open { body.spot ≢ Done }
     ensures link { HasSameLink client.old client.new }
     ensures counted { RefusesTillCut (link_of W.Wire client.old) result (link_of W.Wire client.new) }
-    ensures holds { WhereSound W.sound W.leads_to client.old.wire.now client.new.wire.now
-        ((number : ℕ) (start : Place) → Fetching (retr number) start (place_of W.Wire client.old) body []
-        → TakesText number start (items_of result) (place_of W.Wire client.new)) }
+    ensures holds { TakesOn W.Wire client.old body (λ number start now. TakesText number start (items_of result) now)
+        client.new }
 {
     let mut rest = body;
     let mut text = Vec::new(alloc);
@@ -71,16 +66,14 @@ fn append_text<F: FlatFile, H: BuildHasher>(
     requires whole { IsWhole text.items }
     requires legal { IsLegalId uid.now }
     requires row { has_row ledger.old.seen.rows uid.now ≡ true }
-    requires closed { ledger.old.seen.intent ≡ None }
-    requires steady { F.sound ledger.old.file
-        → Steady (F.stored ledger.old.file).content (none_open ledger.old.seen.rows) }
+    requires ready { IsWritten F.FlatFile ledger.old }
     ensures ledger { KeepsRecord F.FlatFile uid.now ledger.old result ledger.new }
     ensures before { F.sound mbox.new → F.sound mbox.old }
     ensures appends { F.sound mbox.new → F.sound ledger.new.file → F.sound mbox.old × F.sound ledger.old.file
         × AppendsText (F.stored mbox.old) (F.stored ledger.old.file) ledger.old.seen uid.now text.items result
         (F.stored mbox.new) (F.stored ledger.new.file) ledger.new.seen }
     ensures keeps { F.sound mbox.new → F.sound ledger.new.file
-        → KeepsWhole (F.stored mbox.old).content (MayLeave (F.disk mbox.old)) (MayLeave (F.disk mbox.new))
+        → KeepsMboxFile F.FlatFile mbox.old mbox.new
         × StillDurable F.FlatFile ledger.old.seen.rows ledger.old.file ledger.new.file }
     ensures durable { F.sound mbox.new → F.sound ledger.new.file → Trusted (F.disk mbox.old).now
         → IsSafeFile F.FlatFile ledger.old.file
@@ -101,8 +94,8 @@ fn append_text<F: FlatFile, H: BuildHasher>(
     }
 }
 
-/// Takes one text: it is read whole, appended and marked.
-pub(crate) fn take_into_mbox<W: Wire, F: FlatFile, H: BuildHasher>(
+/// Takes one text: it is read whole, appended and marked. `D` is what the account's store would be otherwise.
+pub(crate) fn take_into_mbox<W: Wire, D: MaildirDisk, F: FlatFile, H: BuildHasher>(
     client: &mut Client<'_, W>,
     mbox: &mut F,
     ledger: &mut Ledger<F, H>,
@@ -113,35 +106,12 @@ pub(crate) fn take_into_mbox<W: Wire, F: FlatFile, H: BuildHasher>(
     requires ready { IsWritten F.FlatFile ledger.old }
     requires legal { IsLegalId uid.now }
     requires row { has_row ledger.old.seen.rows uid.now ≡ true }
-    ensures link { KeepsLink W.Wire (TookTillCut (most (retr number))) client.old result client.new }
-    ensures ledger { KeepsLedger F.FlatFile uid.now ledger.old result ledger.new }
-    ensures before { F.sound mbox.new → F.sound mbox.old }
-    ensures takes { WhereAllSound W.sound W.leads_to F.sound F.sound client.old.wire.now client.new.wire.now
-        mbox.old mbox.new
-        ledger.old.file ledger.new.file (TakesTask AsEntries (stores number uid.now)
-        (scene (place_of W.Wire client.old) (in_mbox (F.stored mbox.old))
-        (F.stored ledger.old.file) ledger.old.seen.rows
-        ledger.old.lines.items) result
-        (scene (place_of W.Wire client.new) (in_mbox (F.stored mbox.new))
-        (F.stored ledger.new.file) ledger.new.seen.rows
-        ledger.new.lines.items)) }
-    ensures keeps { F.sound mbox.new → F.sound ledger.new.file
-        → KeepsWhole (F.stored mbox.old).content (MayLeave (F.disk mbox.old)) (MayLeave (F.disk mbox.new))
-        × StillDurable F.FlatFile ledger.old.seen.rows ledger.old.file ledger.new.file }
-    ensures durable { F.sound mbox.new → F.sound ledger.new.file → Trusted (F.disk mbox.old).now
-        → IsSafeFile F.FlatFile ledger.old.file
-        → OnOk result (IsSafeFile F.FlatFile mbox.new × IsSafeFile F.FlatFile ledger.new.file)
-        × (IsSafeFile F.FlatFile mbox.old → W.sound client.new.wire.now → IfErr result (λ cut. LeavesBoth F.FlatFile
-        (F.stored mbox.old).content mbox.new ledger.new.file (IsCutLeft (stores number uid.now)
-        (scene (place_of W.Wire client.old) (in_mbox (F.stored mbox.old))
-        (F.stored ledger.old.file) ledger.old.seen.rows
-        ledger.old.lines.items) cut
-        (scene (place_of W.Wire client.new) (in_mbox (F.stored mbox.new))
-        (F.stored ledger.new.file) ledger.new.seen.rows
-        ledger.new.lines.items)))) }
+    ensures { (account : List ℕ) → RunsTasks W.Wire D.MaildirDisk F.FlatFile account (stores number uid.now ∷ [])
+        client.old (over_mbox mbox.old ledger.old) result client.new (over_mbox mbox.new ledger.new) }
 {
     conversations_are_paced();
     marked_keeps_rows();
+    one_more_is_held();
     let body = client.open(ledger.alloc, number)?;
     let text = read_text(ledger.alloc, client, body)?;
     if !is_whole(&text) {

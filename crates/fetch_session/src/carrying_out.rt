@@ -1,14 +1,12 @@
 //! The part of a session after its listing.
-ghost use Rattle.std.specs.{Prelude.{◌≡◌, ◌≤◌, ◌+◌, ◌*◌, length}, List.AllByRecursion};
+ghost use Rattle.std.specs.{Prelude.{◌≡◌, ◌≤◌, ◌*◌, length}, List.AllByRecursion};
 ghost use Rattle.mail_terms.specs.{Listing.message_limit, UniqueId.IsLegalId};
 ghost use Rattle.mail_store.specs.FileName.{IsAccountText};
 ghost use Rattle.fetch_session.specs.{
-  Target.{AfterTakingIn, NoneBegun, kind_of, target_of},
-  Refusal.{TookWithTail, step_limit, tail_limit},
-  Hearing.{AreMerged, HearsOne, IsPlanned},
-  Durable.DurableCarries,
-  Parts.{KeepsLink, KeepsStore, WhereWorkSound},
-  CarryingOut.Carries,
+  Target.NoneBegun,
+  Refusal.{TookWithTail, listed_limit},
+  Hearing.{HearsOne, IsPlanFor},
+  Parts.{KeepsLink, KeepsStore, RunsListing},
   Report.{HasRoom, none_skipped},
 };
 
@@ -43,21 +41,12 @@ pub fn carry_out<W: Wire, D: MaildirDisk, F: FlatFile, H: BuildHasher, L: Listen
     requires legal { AllByRecursion (λ item. IsLegalId item.uid) listing.now }
     requires none_skipped { skipped.old ≡ none_skipped }
     requires few { length listing.now ≤ message_limit }
-    ensures link { KeepsLink W.Wire (TookWithTail (length listing.now * step_limit + tail_limit)) client.old result
-        client.new }
+    ensures link { KeepsLink W.Wire (TookWithTail (listed_limit (length listing.now))) client.old result client.new }
     ensures store { KeepsStore D.MaildirDisk F.FlatFile (2 * length listing.now) work.old work.new }
-    ensures carries { WhereWorkSound W.Wire D.MaildirDisk F.FlatFile client.old work.old client.new work.new
-        (λ old new. AfterTakingIn old.store (λ left. (is : Carries terms.entry.settings.now
-        (target_of work.old.store terms.entry.account.now) listing.now terms.entry.now old.place left old.file
-        old.lines result
-        new.place new.store new.file new.lines skipped.new)
-        × DurableCarries F.FlatFile work.old.store work.old.ledger.file _ _ _ _ _ _ _ _ _ _ _ _ _ _ is
-        work.new.store work.new.ledger.file)) }
-    ensures heard { HearsOne L.hears (IsPlanned (kind_of work.old.store) terms.entry.settings.now terms.entry.now
-        (length listing.now) skipped.new (λ items rows plan. (items ≡ listing.now) × AreMerged D.MaildirDisk F.FlatFile
-        terms.entry.settings.now terms.entry.account.now terms.entry.now work.old.store work.old.ledger.file
-        work.new.store work.new.ledger.file items rows plan))
-        listener.old listener.new }
+    ensures carries { RunsListing W.Wire D.MaildirDisk F.FlatFile terms.entry listing.now client.old work.old result
+        client.new work.new skipped.new }
+    ensures heard { HearsOne L.hears (IsPlanFor D.MaildirDisk F.FlatFile terms.entry work.old (length listing.now)
+        skipped.new work.new (λ items. items ≡ listing.now)) listener.old listener.new }
 {
     turns_join();
     only_firsts_are_fetched();

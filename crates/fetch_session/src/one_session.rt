@@ -1,19 +1,16 @@
 //! One session, from its greeting to its end.
-ghost use Rattle.std.specs.{Prelude.{◌≡◌, ◌≤◌, ◌+◌, ◌*◌, [], None, Ok, length}, Vec.vec_len};
-ghost use Rattle.pop3_wire.specs.Place.{Place};
-ghost use Rattle.pop3_client.specs.Client.{HasSameLink, link_of, place_of};
+ghost use Rattle.std.specs.{Prelude.{◌≡◌, []}, Vec.vec_len};
+ghost use Rattle.pop3_client.specs.Client.{HasSameLink, link_of};
 ghost use Rattle.rc_file.specs.Settings.{IsValid};
 ghost use Rattle.mail_store.specs.FileName.{IsAccountText};
 ghost use Rattle.fetch_session.specs.{
   Account.IsSameAccount,
-  Refusal.{IsWithinLimits, RefusesByOutcome, GotAtMost, session_limit, TookWithTail, opening_limit, step_limit},
-  Refusal.tail_limit,
-  Hearing.{AreMerged, HearsOne, IsPlanOf, IsPlanned},
-  Durable.{DurableProceeds, RunsSession},
-  Parts.{KeepsLink, KeepsStore, WhereWorkSound},
+  Refusal.{IsWithinLimits, RefusesByOutcome, GotAtMost, session_limit, TookWithTail, listed_limit, parts_limit},
+  Hearing.{HearsOne, IsListedBefore, IsPlanFor, IsPlanOf},
+  Durable.RunsSession,
+  Parts.{KeepsLink, KeepsStore, RunsTillCut},
   Report.{most_lines, none_skipped},
-  Session.{Enters_with, Proceeds, keeping, noted},
-  Target.{AfterTakingIn, NoneBegun, kind_of, target_of},
+  Target.NoneBegun,
 };
 
 use crate::account::Account;
@@ -52,23 +49,13 @@ fn proceed<W: Wire, D: MaildirDisk, F: FlatFile, H: BuildHasher, L: Listener>(
     requires none_begun { NoneBegun D.MaildirDisk F.FlatFile work.old.store }
     requires nothing { (counts.old.total ≡ 0) × (counts.old.skipped ≡ none_skipped)
         × (work.old.ledger.lines.items ≡ []) × (vec_len work.old.ledger.lines ≡ 0) }
-    ensures link { KeepsLink W.Wire (TookWithTail (opening_limit + (counts.new.total * step_limit + tail_limit)))
-        client.old result
-        client.new }
+    ensures link { KeepsLink W.Wire (TookWithTail (parts_limit counts.new.total)) client.old result client.new }
     ensures store { KeepsStore D.MaildirDisk F.FlatFile most_lines work.old work.new }
-    ensures proceeds { WhereWorkSound W.Wire D.MaildirDisk F.FlatFile client.old work.old client.new work.new
-        (λ old new. AfterTakingIn old.store (λ left. (is : Proceeds terms.entry.settings.now
-        (target_of work.old.store terms.entry.account.now) terms.entry.now old.place (keeping left old.file) result
-        new.place (keeping new.store new.file) (noted counts.new.total counts.new.skipped new.lines))
-        × DurableProceeds F.FlatFile work.old.store work.old.ledger.file _ _ _ _ _ _ _ _ _ is
-        work.new.store work.new.ledger.file)) }
-    ensures heard { HearsOne L.hears (IsPlanned (kind_of work.old.store) terms.entry.settings.now terms.entry.now
-        counts.new.total counts.new.skipped (λ items rows plan. (W.sound client.new.wire.now → (mid : Place)
-        × Enters_with terms.entry.settings.now (place_of W.Wire client.old) (Ok items) mid
-        × TookWithTail (counts.new.total * step_limit + tail_limit) mid result (place_of W.Wire client.new))
-        × AreMerged D.MaildirDisk F.FlatFile terms.entry.settings.now terms.entry.account.now terms.entry.now
-        work.old.store work.old.ledger.file work.new.store work.new.ledger.file items rows plan)) listener.old
-        listener.new }
+    ensures proceeds { RunsTillCut W.Wire D.MaildirDisk F.FlatFile terms.entry client.old work.old result client.new
+        work.new counts.new }
+    ensures heard { HearsOne L.hears (IsPlanFor D.MaildirDisk F.FlatFile terms.entry work.old counts.new.total
+        counts.new.skipped work.new (IsListedBefore W.Wire terms.entry.settings.now (listed_limit counts.new.total)
+        client.old result client.new)) listener.old listener.new }
 {
     conversations_are_paced();
     let listing = enter(work.ledger.alloc, terms.settings, client)?;

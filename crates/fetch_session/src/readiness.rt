@@ -1,25 +1,24 @@
 //! What a session knows before its plan is carried out: the record, and what the store holds.
 ghost use Rattle.std.specs.{
-  Prelude.{◌≡◌, ◌≢◌, ◌⊎◌, ℕ, Bool, List, [], false, true, All, None, Some, length, OnOk, IfOk, IfSome},
+  Prelude.{◌≡◌, ◌⊎◌, ℕ, Bool, List, [], true, All, None, Some, length, OnOk, IfOk, IfSome},
   List.AllByRecursion,
 };
 ghost use Rattle.fetch_record.specs.{
-  Intents.closed_rows,
-  Record.{IsRecord, Loaded, has_row, is_delivered, none_open, merged},
+  Record.{IsRecord, Loaded, has_row, is_delivered, none_open},
   RecordFile.file_of,
 };
 ghost use Rattle.fetch_rules.specs.Plan.{IsQuiet, planned};
 ghost use Rattle.fetch_session.specs.{
   Mbox.{AsksMbox, SettlesIntent},
-  Durable.{AreTrusted, IsSafeFile, IsSafeStore, LeavesMerged, LeavesSettled, LeavesStore, ReadiesDurably, is_trusted},
-  Durable.may_leave_in,
-  Parts.KeepsBegun,
-  Target.{AfterTakingIn, held_flags, is_sound, kind_of, mbox_of, stores_of, Entries, Files, target_of},
-  Readiness.{AreAsHeld, ChecksStore, FindsHeld, FindsIn, HasPlan, IsIdle, ChecksIdle, HasFlags, are_undelivered},
-  Readiness.flags_found,
-  Record.{Gets, ReadsRecord, FileReadAs, Merges, IsLineFault, IsSecured, Steady, bytes_in, record_state_in},
+  Durable.{AreTrusted, IsSafeFile, IsSafeStore, LeavesMerged, LeavesSettled, LeavesSettledIn, LeavesStore},
+  Durable.{ReadiesDurably, is_trusted},
+  Parts.{KeepsBegun, ReadiesWork},
+  Target.{AfterTakingIn, AreNamed, is_sound, kind_of, stores_of, Entries, Files, target_of},
+  Readiness.{ChecksStore, FindsHeld, FindsIn, HasPlan, IsAsRead, IsHeldAsIn, IsIdle, ChecksIdle, HasFlags},
+  Readiness.{are_undelivered, flags_found, taken_in},
+  Record.{Gets, ReadsRecord, FileReadAs, Merges, IsLineFault, IsSecured, Steady, record_state_in},
 };
-ghost use Rattle.mail_store.specs.{Durable.{Trusted, MayLeave}, Maildir.{AfterTaking, AllNamed}, Power.LeavesNoMore};
+ghost use Rattle.mail_store.specs.{Durable.{Trusted, MayLeave}, Maildir.AfterTaking, Power.LeavesNoMore};
 
 use crate::account::Store;
 use crate::fault::Fault;
@@ -220,8 +219,7 @@ fn ask_store<D: MaildirDisk, F: FlatFile, H: BuildHasher>(
         ≡ (stores_of D.MaildirDisk F.FlatFile store.old).maildir.begun)
         × IfOk result (λ found. (found.held.items
         ≡ flags_found terms.entry.settings.now.read_all (target_of store.old terms.entry.account.now) seen.now.rows
-        (stores_of D.MaildirDisk F.FlatFile store.new) listing.now)
-        × AllNamed (stores_of D.MaildirDisk F.FlatFile store.new).maildir.files) }
+        (stores_of D.MaildirDisk F.FlatFile store.new) listing.now) × AreNamed D.MaildirDisk F.FlatFile store.new) }
     ensures finds { is_sound D.MaildirDisk F.FlatFile store.new → is_sound D.MaildirDisk F.FlatFile store.old
         × AfterTakingIn (stores_of D.MaildirDisk F.FlatFile store.old)
         (λ left. FindsIn terms.entry.settings.now.read_all (target_of store.old terms.entry.account.now)
@@ -229,8 +227,7 @@ fn ask_store<D: MaildirDisk, F: FlatFile, H: BuildHasher>(
     ensures durable { is_sound D.MaildirDisk F.FlatFile store.new → is_trusted F.FlatFile store.old
         → OnOk result (IsSafeStore F.FlatFile store.new) }
     ensures leaves { is_sound D.MaildirDisk F.FlatFile store.new → is_trusted F.FlatFile store.old
-        → LeavesSettled seen.now.intent (mbox_of F.FlatFile store.old).content (may_leave_in F.FlatFile store.old)
-        (may_leave_in F.FlatFile store.new) }
+        → LeavesSettledIn F.FlatFile seen.now.intent store.old store.new }
 {
     match store {
         Store::Maildir(disk) => find_held(alloc, disk, seen, terms, listing),
@@ -250,23 +247,17 @@ fn take_in<F: FlatFile, H: BuildHasher>(
     is_new: bool,
 ) -> Result<(), Fault>
     requires lengths { length found.now.held.items ≡ length listing.now }
-    requires stands { F.sound file.old → FileReadAs (F.stored file.old).content seen.old }
-    requires begun { F.sound file.old → is_new ≡ false → bytes_in (F.stored file.old).content ≢ [] }
-    ensures rows { OnOk result
-        (seen.new.rows ≡ merged (closed_rows found.now.stored seen.old.rows seen.old.intent) listing.now
-        found.now.held.items now) }
+    requires read { IsAsRead F.FlatFile file.old seen.old is_new }
+    ensures rows { OnOk result (seen.new.rows ≡ taken_in seen.old found.now listing.now now) }
     ensures closed { OnOk result (seen.new.intent ≡ None) }
     ensures renewed { F.sound file.new → seen.old.stale ≡ true
         → OnOk result ((F.stored file.new).content ≡ Some (file_of seen.new.rows None)) }
     ensures merges { F.sound file.new → F.sound file.old
-        × Merges (F.stored file.old) (record_state_in seen.old) (none_open
-        (merged (closed_rows found.now.stored seen.old.rows seen.old.intent) listing.now found.now.held.items now))
-        result
-        (F.stored file.new) }
+        × Merges (F.stored file.old) (record_state_in seen.old)
+        (none_open (taken_in seen.old found.now listing.now now)) result (F.stored file.new) }
     ensures durable { F.sound file.new → IsSafeFile F.FlatFile file.old
         → LeavesMerged (MayLeave (F.disk file.old)) (record_state_in seen.old)
-        (merged (closed_rows found.now.stored seen.old.rows seen.old.intent) listing.now found.now.held.items now)
-        (MayLeave (F.disk file.new))
+        (taken_in seen.old found.now listing.now now) (MayLeave (F.disk file.new))
         × OnOk result (IsSafeFile F.FlatFile file.new) }
 {
     seen.close(found.stored);
@@ -386,31 +377,20 @@ fn prepare_by_store<D: MaildirDisk, F: FlatFile, H: BuildHasher>(
     listing: &Listing,
     is_new: bool,
 ) -> Result<Ready, Fault>
-    requires stands { F.sound work.old.ledger.file
-        → FileReadAs (F.stored work.old.ledger.file).content work.old.ledger.seen }
-    requires begun { F.sound work.old.ledger.file → is_new ≡ false
-        → bytes_in (F.stored work.old.ledger.file).content ≢ [] }
+    requires read { IsAsRead F.FlatFile work.old.ledger.file work.old.ledger.seen is_new }
     requires is_record { IsRecord work.old.ledger.seen.rows }
     ensures store { KeepsBegun D.MaildirDisk F.FlatFile work.old work.new }
     ensures plans { IfOk result
         (λ ready. HasPlan (kind_of work.old.store) terms.entry.settings.now listing.now terms.entry.now ready
         work.new.ledger.seen) }
     ensures held { is_sound D.MaildirDisk F.FlatFile work.new.store → IfOk result (λ ready.
-        AreAsHeld ready.steps.items listing.now ready.held.items
-        (held_flags (target_of work.old.store terms.entry.account.now)
-        (stores_of D.MaildirDisk F.FlatFile work.new.store) listing.now)
-        × AllNamed (stores_of D.MaildirDisk F.FlatFile work.new.store).maildir.files) }
+        IsHeldAsIn D.MaildirDisk F.FlatFile work.old.store terms.entry.account.now listing.now ready work.new.store
+        × AreNamed D.MaildirDisk F.FlatFile work.new.store) }
     ensures steady { F.sound work.new.ledger.file → F.sound work.old.ledger.file
         × OnOk result (Steady (F.stored work.new.ledger.file).content (none_open work.new.ledger.seen.rows)) }
-    ensures readies { is_sound D.MaildirDisk F.FlatFile work.new.store → F.sound work.new.ledger.file
-        → is_sound D.MaildirDisk F.FlatFile work.old.store × F.sound work.old.ledger.file
-        × AfterTakingIn (stores_of D.MaildirDisk F.FlatFile work.old.store)
-        (λ left. ReadiesDurably D.MaildirDisk F.FlatFile
-        (is_trusted F.FlatFile work.old.store × IsSafeFile F.FlatFile work.old.ledger.file) work.old.store
-        work.old.ledger.file
-        terms.entry.settings.now (target_of work.old.store terms.entry.account.now) listing.now terms.entry.now
-        left result
-        work.new.ledger.seen.rows work.new.store work.new.ledger.file) }
+    ensures readies { ReadiesWork D.MaildirDisk F.FlatFile
+        (is_trusted F.FlatFile work.old.store × IsSafeFile F.FlatFile work.old.ledger.file) terms.entry listing.now
+        work.old result work.new }
 {
     listed_has_row();
     held_is_delivered();
@@ -441,24 +421,14 @@ pub fn prepare<D: MaildirDisk, F: FlatFile, H: BuildHasher>(
     ensures plans { IfOk result
         (λ ready. HasPlan (kind_of work.old.store) terms.entry.settings.now listing.now terms.entry.now ready
         work.new.ledger.seen) }
-    ensures held { is_sound D.MaildirDisk F.FlatFile work.new.store
-        → IfOk result (λ ready. AreAsHeld ready.steps.items listing.now
-        ready.held.items
-        (held_flags (target_of work.old.store terms.entry.account.now)
-        (stores_of D.MaildirDisk F.FlatFile work.new.store) listing.now)) }
-    ensures named { is_sound D.MaildirDisk F.FlatFile work.new.store
-        → IfOk result (λ ready. All IsQuiet ready.steps.items
-        ⊎ AllNamed (stores_of D.MaildirDisk F.FlatFile work.new.store).maildir.files) }
+    ensures held { is_sound D.MaildirDisk F.FlatFile work.new.store → IfOk result (λ ready.
+        IsHeldAsIn D.MaildirDisk F.FlatFile work.old.store terms.entry.account.now listing.now ready work.new.store) }
+    ensures named { is_sound D.MaildirDisk F.FlatFile work.new.store → IfOk result (λ ready.
+        All IsQuiet ready.steps.items ⊎ AreNamed D.MaildirDisk F.FlatFile work.new.store) }
     ensures steady { F.sound work.new.ledger.file → F.sound work.old.ledger.file
         × OnOk result (Steady (F.stored work.new.ledger.file).content (none_open work.new.ledger.seen.rows)) }
-    ensures readies { is_sound D.MaildirDisk F.FlatFile work.new.store → F.sound work.new.ledger.file
-        → is_sound D.MaildirDisk F.FlatFile work.old.store × F.sound work.old.ledger.file
-        × AfterTakingIn (stores_of D.MaildirDisk F.FlatFile work.old.store)
-        (λ left. ReadiesDurably D.MaildirDisk F.FlatFile
-        (AreTrusted F.FlatFile work.old.store work.old.ledger.file) work.old.store work.old.ledger.file
-        terms.entry.settings.now (target_of work.old.store terms.entry.account.now) listing.now terms.entry.now
-        left result
-        work.new.ledger.seen.rows work.new.store work.new.ledger.file) }
+    ensures readies { ReadiesWork D.MaildirDisk F.FlatFile
+        (AreTrusted F.FlatFile work.old.store work.old.ledger.file) terms.entry listing.now work.old result work.new }
 {
     delivered_has_row();
     let alloc = work.ledger.alloc;

@@ -15,7 +15,7 @@ use crate::report::{ReportLine, note};
 use crate::storing::{reread, take_into_maildir};
 use crate::work::Work;
 use fetch_rules::{Listing, Step};
-use mail_store::{AccountId, FlatFile, MaildirDisk, one_more_is_held};
+use mail_store::{AccountId, FlatFile, MaildirDisk};
 use pop3_client::{Client, conversations_are_paced, turns_join};
 use pop3_wire::Wire;
 use std::hash::BuildHasher;
@@ -79,17 +79,16 @@ fn do_task<W: Wire, D: MaildirDisk, F: FlatFile, H: BuildHasher>(
     ensures { RunsTasks W.Wire D.MaildirDisk F.FlatFile account.now (task_of task.entry ∷ []) client.old work.old
         result client.new work.new }
 {
-    one_more_is_held();
     match task {
         Task::Store { number, uid } => match &mut work.store {
             Store::Maildir(disk) => {
                 take_into_maildir(client, disk, &mut work.ledger, account, number, uid)
             }
-            Store::Mboxrd(mbox) => take_into_mbox(client, mbox, &mut work.ledger, number, uid),
+            Store::Mboxrd(mbox) => {
+                take_into_mbox::<W, D, F, H>(client, mbox, &mut work.ledger, number, uid)
+            }
         },
-        Task::Reread { number, .. } => {
-            reread(work.ledger.alloc, client, &mut work.ledger.lines, number)
-        }
+        Task::Reread { number, .. } => reread(client, work, number),
         Task::Skip { number, size } => {
             note(&mut work.ledger.lines, ReportLine::Skipped { number, size });
             Ok(())

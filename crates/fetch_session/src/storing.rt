@@ -1,40 +1,27 @@
 //! How a text is taken: stored, or passed over if it is held already.
-ghost use Rattle.std.specs.Prelude.{◌≡◌, ◌≢◌, ◌⊎◌, ◌≤◌, ℕ, List, [], None, IsSome, OnErr, OnOk, false, string_bytes};
-ghost use Rattle.mail_terms.specs.UniqueId.{IsLegalId};
-ghost use Rattle.pop3_client.specs.{
-  Client.{HasSameLink, CountsRefusals, place_of, link_of},
-  Turns.{most, retr, text_limit},
-  Texts.Fetching,
-};
-ghost use Rattle.pop3_wire.specs.{Link.WhereSound, Place.Place, declared.unstuffer.Spot.TheVariants.Done};
-ghost use Rattle.fetch_record.specs.Record.{Row};
-ghost use Rattle.mail_store.specs.{
-  FlatFile.Stored,
-  FileName.{HasRoomForSize, IsAccountText, is_held, sized, stem_of},
-  Maildir.{AllNamed, IsThere},
-};
+ghost use Rattle.std.specs.Prelude.{◌≡◌, ◌≢◌, ◌≤◌, ℕ, List, [], ◌∷◌, None, IsSome, string_bytes};
+ghost use Rattle.pop3_client.specs.{Client.{HasSameLink, CountsRefusals, link_of}, Turns.text_limit};
+ghost use Rattle.pop3_wire.specs.declared.unstuffer.Spot.TheVariants.{Done};
+ghost use Rattle.mail_store.specs.{FileName.{HasRoomForSize, sized}, Maildir.{AllNamed, IsThere}};
 ghost use Rattle.fetch_session.specs.{
-  Durable.{AreLeft, IsSafeFile, LeavesFile, OneDurable, StillDurable},
-  Parts.{KeepsLedger, KeepsLink, IsWritten},
-  Refusal.{RefusesTillCut, TookTillCut},
-  Report.{AddsLines, HasRoom},
-  Scene.{scene, TakesTask, WhereAllSound},
-  Store.{EndsFile, MayGain, PassesText, PutsBytes, ReadsText, StartsFile, StoresText},
-  Target.{AsFiles, Stores, Target, in_maildir},
+  Parts.{IsReadyFor, IsReadyForNext, RunsTasks, over_maildir},
+  Refusal.RefusesTillCut,
+  Report.HasRoom,
+  Store.{EndsFile, IsFreeFor, PassesText, PutsBytes, ReadsText, StartsFile, StoresText, TakesOn},
   Task.{rereads, stores},
 };
 
 use crate::fault::{Cut, Fault, Why};
 use crate::record::remember;
 use crate::report::{ReportLine, note};
-use crate::work::Ledger;
+use crate::work::{Ledger, Work};
 use fetch_rules::marked_keeps_rows;
 use mail_store::{
-    AccountId, FlatFile, MaildirDisk, StoreFault, add_size, file_stem, unheld_ids_are_not_there,
+    AccountId, FlatFile, MaildirDisk, StoreFault, add_size, file_stem, one_more_is_held,
+    unheld_ids_are_not_there,
 };
 use pop3_client::{Client, ClientFault, conversations_are_paced};
 use pop3_wire::{BodyReader, PIECE_ROOM, Wire};
-use std::alloc::Global;
 use std::hash::BuildHasher;
 use std::vec::Vec;
 
@@ -99,17 +86,12 @@ pub(crate) fn store_text<W: Wire, D: MaildirDisk>(
     requires room { HasRoomForSize stem }
     requires open { body.spot ≢ Done }
     requires within { body.left ≤ text_limit }
-    requires none_begun { D.sound disk.old → (D.maildir disk.old).begun ≡ None }
-    requires not_there { D.sound disk.old → (size : ℕ)
-        → IsThere (D.maildir disk.old) (sized (string_bytes stem) size) → ⊥ }
-    requires named { D.sound disk.old → AllNamed (D.maildir disk.old).files }
+    requires free { D.sound disk.old → IsFreeFor (string_bytes stem) (D.maildir disk.old) }
     ensures link { HasSameLink client.old client.new }
     ensures counted { RefusesTillCut (link_of W.Wire client.old) result (link_of W.Wire client.new) }
     ensures stores { (text : List ℕ) × (D.sound disk.new → D.sound disk.old
         × StoresText (string_bytes stem) (D.maildir disk.old) text result (D.maildir disk.new))
-        × WhereSound W.sound W.leads_to client.old.wire.now client.new.wire.now
-        ((number : ℕ) (start : Place) → Fetching (retr number) start (place_of W.Wire client.old) body []
-        → ReadsText number start text result (place_of W.Wire client.new)) }
+        × TakesOn W.Wire client.old body (λ number start now. ReadsText number start text result now) client.new }
 {
     let mut rest = body;
     if let Err(fault) = begin_file(disk, stem.as_str()) {
@@ -156,9 +138,8 @@ pub(crate) fn pass_text<W: Wire>(
     requires within { body.left ≤ text_limit }
     ensures link { HasSameLink client.old client.new }
     ensures counted { CountsRefusals W.Wire client.old result client.new }
-    ensures passes { WhereSound W.sound W.leads_to client.old.wire.now client.new.wire.now
-        ((number : ℕ) (start : Place) → Fetching (retr number) start (place_of W.Wire client.old) body []
-        → PassesText number start result (place_of W.Wire client.new)) }
+    ensures passes { TakesOn W.Wire client.old body (λ number start now. PassesText number start result now)
+        client.new }
 {
     let mut rest = body;
     let mut length = 0u64;
@@ -173,25 +154,20 @@ pub(crate) fn pass_text<W: Wire>(
 }
 
 /// Takes one text that is held already: it is read.
-pub(crate) fn reread<W: Wire>(
-    alloc: Global,
+pub(crate) fn reread<W: Wire, D: MaildirDisk, F: FlatFile, H: BuildHasher>(
     client: &mut Client<'_, W>,
-    lines: &mut Vec<ReportLine>,
+    work: &mut Work<D, F, H>,
     number: u32,
 ) -> Result<(), Cut>
-    requires room { HasRoom lines.old 1 }
-    ensures link { KeepsLink W.Wire (TookTillCut (most (retr number))) client.old result client.new }
-    ensures few { AddsLines lines.old 1 lines.new }
-    ensures rereads { (target : Target) (uid : List ℕ) (store : Stores) (file : Stored) (rows : List Row)
-        → WhereSound W.sound W.leads_to client.old.wire.now client.new.wire.now
-        (TakesTask target (rereads number uid)
-        (scene (place_of W.Wire client.old) store file rows lines.old.items) result
-        (scene (place_of W.Wire client.new) store file rows lines.new.items)) }
+    requires room { HasRoom work.old.ledger.lines 1 }
+    requires ready { IsReadyForNext D.MaildirDisk F.FlatFile work.old }
+    ensures { (account uid : List ℕ) → RunsTasks W.Wire D.MaildirDisk F.FlatFile account (rereads number uid ∷ [])
+        client.old work.old result client.new work.new }
 {
     conversations_are_paced();
-    let body = client.open(alloc, number)?;
+    let body = client.open(work.ledger.alloc, number)?;
     let length = pass_text(client, body)?;
-    note(lines, ReportLine::Held { number, length });
+    note(&mut work.ledger.lines, ReportLine::Held { number, length });
     Ok(())
 }
 
@@ -204,36 +180,14 @@ pub(crate) fn take_into_maildir<W: Wire, D: MaildirDisk, F: FlatFile, H: BuildHa
     number: u32,
     uid: &[u8],
 ) -> Result<(), Cut>
-    requires digits { IsAccountText account.now }
-    requires legal { IsLegalId uid.now }
-    requires room { HasRoom ledger.old.lines 1 }
-    requires none_begun { D.sound disk.old → (D.maildir disk.old).begun ≡ None }
-    requires ready { IsWritten F.FlatFile ledger.old }
-    requires free { D.sound disk.old → is_held account.now (D.maildir disk.old) uid.now ≡ false }
-    requires named { D.sound disk.old → AllNamed (D.maildir disk.old).files }
-    ensures link { KeepsLink W.Wire (TookTillCut (most (retr number))) client.old result client.new }
-    ensures ledger { KeepsLedger F.FlatFile uid.now ledger.old result ledger.new }
-    ensures grows { D.sound disk.new → D.sound disk.old
-        × MayGain (stem_of account.now uid.now) (D.maildir disk.old) (D.maildir disk.new)
-        × OnOk result (AllNamed (D.maildir disk.new).files) }
-    ensures takes { WhereAllSound W.sound W.leads_to D.sound F.sound client.old.wire.now client.new.wire.now
-        disk.old disk.new
-        ledger.old.file ledger.new.file (TakesTask (AsFiles account.now) (stores number uid.now)
-        (scene (place_of W.Wire client.old) (in_maildir (D.maildir disk.old))
-        (F.stored ledger.old.file) ledger.old.seen.rows
-        ledger.old.lines.items) result
-        (scene (place_of W.Wire client.new) (in_maildir (D.maildir disk.new))
-        (F.stored ledger.new.file) ledger.new.seen.rows
-        ledger.new.lines.items)) }
-    ensures keeps { F.sound ledger.new.file
-        → ((rows : List Row) → StillDurable F.FlatFile rows ledger.old.file ledger.new.file) }
-    ensures durable { D.sound disk.new → F.sound ledger.new.file → IsSafeFile F.FlatFile ledger.old.file
-        → OnOk result (IsSafeFile F.FlatFile ledger.new.file)
-        × OnErr result (LeavesFile F.FlatFile ledger.new.file (AreLeft ledger.old.seen.rows ledger.old.seen.rows)
-        ⊎ OneDurable (D.maildir disk.old) (D.maildir disk.new)) }
+    requires { IsReadyFor D.MaildirDisk F.FlatFile account.now (stores number uid.now ∷ [])
+        (over_maildir disk.old ledger.old) }
+    ensures { RunsTasks W.Wire D.MaildirDisk F.FlatFile account.now (stores number uid.now ∷ []) client.old
+        (over_maildir disk.old ledger.old) result client.new (over_maildir disk.new ledger.new) }
 {
     conversations_are_paced();
     marked_keeps_rows();
+    one_more_is_held();
     unheld_ids_are_not_there();
     let stem = file_stem(ledger.alloc, account, uid)?;
     let body = client.open(ledger.alloc, number)?;

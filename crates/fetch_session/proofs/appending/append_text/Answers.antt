@@ -118,7 +118,7 @@ returns-in_err-edges-clause-ledger g c =
       rows = refl;
       opened = tt;
       steady = λ f. (f, tt);
-      durable = λ f safe. (tt, λ others. same_left g.F.FlatFile c.args.ledger.now.file safe (c.requires.steady f));
+      durable = λ f safe. (tt, λ others. same_left g.F.FlatFile c.args.ledger.now.file safe (c.requires.ready.steady f));
     })
 
 pub returns-in_err-size-clause-ledger : goal.returns-in_err-size-clause-ledger
@@ -265,7 +265,7 @@ returns-in_err-edges-clause-durable g c =
       tt,
       λ whole firm bytes has left may now is seen there. inl (
         same_grown g.F.FlatFile c.args.ledger.now.file (none_open rows)
-            (with_open rows (intent_of bytes c.args.uid.now c.args.text.items)) safe (c.requires.steady f) now is seen there,
+            (with_open rows (intent_of bytes c.args.uid.now c.args.text.items)) safe (c.requires.ready.steady f) now is seen there,
         looked g (goal.at.returns-in_err-edges-clause-durable g c).After-edges m whole bytes has left may,
       ),
     ))

@@ -10,7 +10,7 @@ use Rattle.fetch_session.{
   specs.{Report.AddsLines, Task.stores, Durable.{IsEntryLeft, IsSafeFile, LeavesBoth}},
   proofs.{TextLemmas.{text_broken, body_whole, entry_not_saved, entry_stored, not_held, text_refused}, SessionLemmas.none_left_of},
   proofs.{TalkLemmas.{took_talked, takes_held, before_cut, err_is, did_both, did_so}, SceneLemmas.{both_sound, link_alone}},
-  proofs.PartLemmas.{link_broke, link_then_cut, marked_ledger, same_ledger},
+  proofs.PartLemmas.{entered, link_broke, link_then_cut, marked_ledger, same_ledger},
   proofs.appending.take_into_mbox.Goals.{After-len-length, After-note, After-remember, In_ok-text},
 }
 use Rattle.mail_store.specs.{Durable.Trusted, FlatFile.Stored, Mboxrd.entry_of}
@@ -46,8 +46,8 @@ took g c = record {
 -- ---- where it stops
 
 pub returns-in_err-body : goal.returns-in_err-body
-returns-in_err-body g c = rw (err_is c.from_residual.ensures.1) (record {
-  link = link_broke c.conversations_are_paced.ensures (retr c.args.number) c.in_err-body.field-0.0 c.open.ensures.link
+returns-in_err-body g c = rw (err_is c.from_residual.ensures.1) (entered c.one_more_is_held.ensures c.requires.ready (record {
+  talk = link_broke c.conversations_are_paced.ensures (retr c.args.number) c.in_err-body.field-0.0 c.open.ensures.link
       c.in_err-body.ensures.counted c.in_err-body.ensures.opens;
   ledger = same_ledger c.args.uid.now c.args.ledger.now _ c.requires.ready;
   before = λ m. m;
@@ -59,11 +59,11 @@ returns-in_err-body g c = rw (err_is c.from_residual.ensures.1) (record {
         (place_of g.W.Wire c.args.client.now) c.args.ledger.now.seen.rows c.args.ledger.now.lines.items _ _ safe
         (c.requires.ready.steady f) whole,
   );
-})
+}))
 
 pub returns-in_err-text : goal.returns-in_err-text
-returns-in_err-text g c = rw (err_is c.from_residual-in_err-text.ensures.1) (record {
-  link = record {
+returns-in_err-text g c = rw (err_is c.from_residual-in_err-text.ensures.1) (entered c.one_more_is_held.ensures c.requires.ready (record {
+  talk = record {
     same = c.read_text.ensures.link ∙ c.open.ensures.link;
     counted = before_cut (link_of g.W.Wire c.args.client.now) (link_of g.W.Wire c.open.new.self)
         (link_of g.W.Wire c.read_text.new.client) c.in_err-text.field-0.0 c.in_ok-body.ensures.counted c.in_err-text.ensures.counted;
@@ -82,13 +82,13 @@ returns-in_err-text g c = rw (err_is c.from_residual-in_err-text.ensures.1) (rec
         (place_of g.W.Wire c.args.client.now) c.args.ledger.now.seen.rows c.args.ledger.now.lines.items _ _ safe
         (c.requires.ready.steady f) whole,
   );
-})
+}))
 
 pub returns-then-not-is_whole : goal.returns-then-not-is_whole
 returns-then-not-is_whole g c =
     let here = (goal.at.returns-then-not-is_whole g c).In_ok-text in
-    record {
-      link = rw c.from.ensures (link_then_cut (took g here));
+    entered c.one_more_is_held.ensures c.requires.ready (record {
+      talk = rw c.from.ensures (link_then_cut (took g here));
       ledger = same_ledger c.args.uid.now c.args.ledger.now _ c.requires.ready;
       before = λ m. m;
       takes = λ w m f.
@@ -102,14 +102,14 @@ returns-then-not-is_whole g c =
             (place_of g.W.Wire c.args.client.now) c.args.ledger.now.seen.rows c.args.ledger.now.lines.items _ _ safe
             (c.requires.ready.steady f) whole,
       );
-    }
+    })
 
 pub returns-in_err-append_text : goal.returns-in_err-append_text
 returns-in_err-append_text g c =
     let here = (goal.at.returns-in_err-append_text g c).In_ok-text in
     let kept = c.append_text.ensures in
-    rw (err_is c.from_residual-in_err-append_text.ensures.1) (record {
-      link = link_then_cut (took g here);
+    rw (err_is c.from_residual-in_err-append_text.ensures.1) (entered c.one_more_is_held.ensures c.requires.ready (record {
+      talk = link_then_cut (took g here);
       ledger = record {
         lines = subst (λ lines. AddsLines lines 1 c.append_text.new.ledger.lines) kept.ledger.lines (omega arith, omega arith);
         sound = λ f. (kept.ledger.steady f).0;
@@ -132,15 +132,15 @@ returns-in_err-append_text g c =
               rw (its, text) ((c.in_err-append_text.ensures.durable m f trust safe).1 whole firm bytes has left may now is seen there),
             )),
       );
-    })
+    }))
 
 pub returns : goal.returns
 returns g c =
     let here = goal.at.returns g c in
     let kept = c.append_text.ensures in
     let marks = c.in_ok-remember.ensures in
-    record {
-      link = took g here.In_ok-text;
+    entered c.one_more_is_held.ensures c.requires.ready (record {
+      talk = took g here.In_ok-text;
       ledger = marked_ledger (Ok tt) c.marked_keeps_rows.ensures kept.ledger.rows (noted g here.After-note)
           (λ f. (kept.ledger.steady (marks.saves f).0).0) (marks.rows, record { closed = marks.closed; steady = λ f. (marks.steady f).1 })
           (λ f safe. (c.remember.ensures.keeps f).1 (c.in_ok-append_text.ensures.ledger.durable (marks.saves f).0 safe).0);
@@ -152,7 +152,7 @@ returns g c =
       keeps = λ m f. let keeps = kept.keeps m (marks.saves f).0 in (keeps.0, λ last. (c.remember.ensures.keeps f).0 _ (keeps.1 last));
       durable = λ m f trust safe. let all = (c.in_ok-append_text.ensures.durable m (marks.saves f).0 trust safe).0 in
           ((all.0, marks.durable f all.1), λ whole w. tt);
-    }
+    })
 
 -- the entry is whole, and its id may be marked
 marked_left : (g : _) (c : After-remember g) → g.F.FlatFile.sound c.append_text.new.mbox
@@ -176,8 +176,8 @@ returns-in_err-remember g c =
     let here = goal.at.returns-in_err-remember g c in
     let kept = c.append_text.ensures in
     let marks = c.in_err-remember.ensures in
-    rw (err_is c.from_residual-in_err-remember.ensures.1) (record {
-      link = link_then_cut (took g here.In_ok-text);
+    rw (err_is c.from_residual-in_err-remember.ensures.1) (entered c.one_more_is_held.ensures c.requires.ready (record {
+      talk = link_then_cut (took g here.In_ok-text);
       ledger = marked_ledger (Err _) c.marked_keeps_rows.ensures kept.ledger.rows (noted g here.After-note)
           (λ f. (kept.ledger.steady (marks.saves f).0).0) tt
           (λ f safe. (c.remember.ensures.keeps f).1 (c.in_ok-append_text.ensures.ledger.durable (marks.saves f).0 safe).0);
@@ -197,4 +197,4 @@ returns-in_err-remember g c =
             (c.in_ok-append_text.ensures.appends m (marks.saves f).0).2 kept.ledger.rows (marks.saves f).1 (told g here.After-note) in
             inr (inr (u, rw (its, text) (marked_left g here.After-remember m f trust safe firm bytes has left may now is seen there))),
       );
-    })
+    }))

@@ -10,10 +10,10 @@ use Rattle.fetch_session.{
   proofs.{SessionLemmas.{named_ahead, carried, in_kind}, carrying_out.carry_out.Goals.{After-deref-3, After-do_steps, In_ok-do_steps}},
   proofs.PartLemmas.{runs_before, goes_on, link_idle, link_less, link_on_tail, link_with_tail, most_planned, planned_all, store_less},
   proofs.PartLemmas.store_on,
-  specs.{Target.{AfterTakingIn, is_sound, kind_of, stores_of, target_of}, Hearing.{AreMerged, HearsOne, IsPlanned}, Durable.DurableCarries},
-  specs.{CarryingOut.Carries, declared.{fault.Cut.Cut, account.Store.Store, work.Work.Work}, Task.{Task, says, tasks_planned}},
+  specs.{Target.{is_sound, stores_of}, Hearing.{HearsOne, IsPlanFor}, declared.{fault.Cut.Cut, work.Work.Work}},
+  specs.Task.{Task, says, tasks_planned},
   specs.{Report.{AddsLines, HasRoom, skips_of}, Refusal.{TookTillCut, step_limit}},
-  specs.Parts.{RunsTasks, IsReadyFor, KeepsLink, KeepsStore, WhereWorkSound},
+  specs.Parts.{RunsListing, RunsTasks, IsReadyFor, KeepsLink, KeepsStore},
 }
 use Rattle.fetch_session.proofs.carrying_out.carry_out.Goals as goal
 
@@ -99,12 +99,8 @@ tasks_on g c = tasks_planned c.deref-2.result.now c.args.listing.now c.deref-3.r
 carries : (g : _) (c : After-deref-3 g) (r : Result (Unit {0}) Cut) {client : Client g.row.W.Denot}
     {work : Work g.row.D.Denot g.row.F.Denot _ _}
     → RunsTasks g.W.Wire g.D.MaildirDisk g.F.FlatFile c.args.terms.account.now (tasks_on g c) c.args.client.now
-    c.prepare.new.work r client work → WhereWorkSound g.W.Wire g.D.MaildirDisk g.F.FlatFile c.args.client.now c.args.work.now client work
-    (λ old new. AfterTakingIn old.store (λ left.
-    (is : Carries c.args.terms.settings.now (target_of c.args.work.now.store c.args.terms.account.now) c.args.listing.now c.args.terms.now
-    old.place left old.file old.lines r new.place new.store new.file new.lines c.skips_of.result)
-    × DurableCarries g.F.FlatFile c.args.work.now.store c.args.work.now.ledger.file _ _ _ _ _ _ _ _ _ _ _ _ _ _ is work.store
-    work.ledger.file))
+    c.prepare.new.work r client work → RunsListing g.W.Wire g.D.MaildirDisk g.F.FlatFile c.args.terms c.args.listing.now
+    c.args.client.now c.args.work.now r client work c.skips_of.result
 carries g c r (keeps, does) = λ w d f.
     let done = does w d f in
     let ready = c.in_ok-ready.ensures.readies done.1 done.2 in
@@ -138,15 +134,13 @@ stood g c =
     }
 
 -- the listener was told of the plan, and then of lines
-told : (g : _) (c : After-do_steps g) (store : Store g.row.D.Denot g.row.F.Denot) (file : g.row.F.Denot)
-    → (is_sound g.D.MaildirDisk g.F.FlatFile store → g.F.FlatFile.sound file
+told : (g : _) (c : After-do_steps g) (work : Work g.row.D.Denot g.row.F.Denot _ _)
+    → (is_sound g.D.MaildirDisk g.F.FlatFile work.store → g.F.FlatFile.sound work.ledger.file
     → is_sound g.D.MaildirDisk g.F.FlatFile c.prepare.new.work.store × g.F.FlatFile.sound c.prepare.new.work.ledger.file)
-    → HearsOne g.L.Listener.hears (IsPlanned (kind_of c.args.work.now.store) c.args.terms.settings.now c.args.terms.now
-    (length c.args.listing.now) c.skips_of.result
-    (λ items rows plan. (items ≡ c.args.listing.now) × AreMerged g.D.MaildirDisk g.F.FlatFile c.args.terms.settings.now
-    c.args.terms.account.now c.args.terms.now c.args.work.now.store c.args.work.now.ledger.file store file items rows plan))
-    c.args.listener.now c.do_steps.new.listener
-told g c store file back =
+    → HearsOne g.L.Listener.hears (IsPlanFor g.D.MaildirDisk g.F.FlatFile c.args.terms c.args.work.now
+    (length c.args.listing.now) c.skips_of.result work (λ items. items ≡ c.args.listing.now)) c.args.listener.now
+    c.do_steps.new.listener
+told g c work back =
     let settings = c.args.terms.settings.now in
     let items = c.args.listing.now in
     let now = c.args.terms.now in
@@ -185,8 +179,7 @@ returns-in_err-do_steps g c =
           (most_planned c.deref-2.result.now c.args.listing.now c.deref-3.result.now).0 done.runs.0.talk);
       store = stood g here.After-do_steps;
       carries = carries g here.After-deref-3 (Err c.in_err-do_steps.field-0.0) (runs_before _ _ done.runs);
-      heard = told g here.After-do_steps c.do_steps.new.work.store c.do_steps.new.work.ledger.file
-          (λ d f. ((done.runs.0.store.none_begun d).0, (done.runs.0.durable d f).0));
+      heard = told g here.After-do_steps c.do_steps.new.work (λ d f. ((done.runs.0.store.none_begun d).0, (done.runs.0.durable d f).0));
     })
 
 pub returns : goal.returns
@@ -199,8 +192,7 @@ returns g c =
       link = link_on_tail (omega arith) (did g here.In_ok-do_steps) last.link;
       store = store_on (omega arith) (stood g here.After-do_steps) c.end.ensures.store;
       carries = carries g here.After-deref-3 (Ok tt) all;
-      heard = told g here.After-do_steps c.end.new.work.store c.end.new.work.ledger.file
-          (λ d f. ((all.0.store.none_begun d).0, (all.0.durable d f).0));
+      heard = told g here.After-do_steps c.end.new.work (λ d f. ((all.0.store.none_begun d).0, (all.0.durable d f).0));
     }
 
 pub returns-in_err-end : goal.returns-in_err-end
@@ -213,8 +205,7 @@ returns-in_err-end g c =
       link = link_on_tail (omega arith) (did g here.In_ok-do_steps) last.link;
       store = store_on (omega arith) (stood g here.After-do_steps) c.end.ensures.store;
       carries = carries g here.After-deref-3 (Err c.in_err-end.field-0.0) all;
-      heard = told g here.After-do_steps c.end.new.work.store c.end.new.work.ledger.file
-          (λ d f. ((all.0.store.none_begun d).0, (all.0.durable d f).0));
+      heard = told g here.After-do_steps c.end.new.work (λ d f. ((all.0.store.none_begun d).0, (all.0.durable d f).0));
     })
 
 pub returns-in_err-ready-clause-link : goal.returns-in_err-ready-clause-link

@@ -49,7 +49,7 @@ returns-in_err-found-clause-readies g c = rw (err_is c.from_residual.ensures.1)
     (λ d f. asked (c.in_err-found.ensures.finds d) f (λ left finds. record {
       readies = record {
         cause = not_found _ (target_of c.args.work.now.store c.args.terms.account.now) _ _ _ _ _ c.args.work.now.ledger.seen
-            c.in_err-found.field-0.0 (c.requires.stands f) finds;
+            c.in_err-found.field-0.0 (c.requires.read.stands f) finds;
         content = inl refl;
       };
       durable = λ safe. (
@@ -58,7 +58,7 @@ returns-in_err-found-clause-readies g c = rw (err_is c.from_residual.ensures.1)
           safe.1,
           (
             record_state_in c.args.work.now.ledger.seen,
-            read_keeps (g.F.FlatFile.stored c.args.work.now.ledger.file).content c.args.work.now.ledger.seen (c.requires.stands f),
+            read_keeps (g.F.FlatFile.stored c.args.work.now.ledger.file).content c.args.work.now.ledger.seen (c.requires.read.stands f),
             c.in_err-found.ensures.leaves d safe.0,
           ),
         ),
@@ -70,7 +70,7 @@ returns-in_err-take_in-clause-readies g c = rw (err_is c.from_residual-in_err-ta
     let merges = c.in_err-take_in.ensures.merges f in
     asked (c.in_ok-found.ensures.finds d) merges.0 (λ left finds.
     unready _ _ _ _ _ c.take_in.new.file c.args.terms.account.now _ _ _ left c.args.work.now.ledger.seen
-    c.in_ok-found.found (c.requires.stands merges.0) c.merges_ask_only_for_new_ids.ensures c.requires.is_record finds
+    c.in_ok-found.found (c.requires.read.stands merges.0) c.merges_ask_only_for_new_ids.ensures c.requires.is_record finds
     (Err c.in_err-take_in.field-0.0) merges.1 (λ safe. (
       safe.1,
       (c.in_err-take_in.ensures.durable f safe.1).0,
@@ -83,7 +83,7 @@ returns-in_err-steps-clause-readies g c = rw (err_is c.from_residual-in_err-step
     let merges = c.in_ok-take_in.ensures.merges f in
     asked (c.in_ok-found.ensures.finds d) merges.0 (λ left finds.
     unready _ _ _ _ _ c.take_in.new.file c.args.terms.account.now _ _ _ left c.args.work.now.ledger.seen
-    c.in_ok-found.found (c.requires.stands merges.0) c.merges_ask_only_for_new_ids.ensures c.requires.is_record finds (Ok tt) merges.1
+    c.in_ok-found.found (c.requires.read.stands merges.0) c.merges_ask_only_for_new_ids.ensures c.requires.is_record finds (Ok tt) merges.1
     (λ safe. (
       safe.1,
       (c.in_ok-take_in.ensures.durable f safe.1).0,
@@ -99,7 +99,7 @@ returns-clause-readies g c = λ d f.
     (c.only_asked_for_are_fetched.ensures c.args.terms.settings.now by.0 c.take_in.new.seen.rows c.args.listing.now c.args.terms.now) in
     asked (c.in_ok-found.ensures.finds d) merges.0 (λ left finds.
     ready _ _ _ _ _ c.take_in.new.file c.args.terms.account.now _ _ _ left c.args.work.now.ledger.seen
-    c.in_ok-found.found (c.requires.stands merges.0) c.merges_ask_only_for_new_ids.ensures c.requires.is_record finds
+    c.in_ok-found.found (c.requires.read.stands merges.0) c.merges_ask_only_for_new_ids.ensures c.requires.is_record finds
     _ c.held_is_delivered.ensures c.marked_is_delivered.ensures only_asked merges.1 c.in_ok-take_in.ensures.rows refl
     (λ is_odd are. c.in_ok-steps.ensures is_odd (c.deref.ensures.value ∙ are))
     (λ safe. ((c.in_ok-take_in.ensures.durable f safe.1).1, c.in_ok-found.ensures.durable d safe.0)))

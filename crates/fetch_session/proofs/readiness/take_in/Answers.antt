@@ -23,7 +23,7 @@ grows g c kept =
     let fresh : c.args.seen.now.stale ≡ false = rw c.close.ensures.after at
     (sym c.needs_rewrite.ensures ∙ c.if-needs_rewrite.false) in
     let steady = read_steady (g.F.FlatFile.stored c.args.file.now).content c.args.seen.now
-    (c.requires.stands (c.grow.ensures.saves kept).0) fresh in
+    (c.requires.read.stands (c.grow.ensures.saves kept).0) fresh in
     let is_was : closed ≡ was = ap (closed_rows c.args.found.now.stored was) steady.1 in (
       steady.0,
       steady.1,
@@ -64,7 +64,7 @@ returns-then-changed-clause-merges g c = λ kept. and_so (c.save.ensures.saves k
     rw (c.in_ok-changed.ensures.after, c.deref.ensures.value, c.close.ensures.after) at
     (writes_merges old (g.F.FlatFile.stored c.save.new.file) (record_state_in c.args.seen.now)
     (record_state_in c.merge.new.self) c.save.result
-    (read_keeps old.content c.args.seen.now (c.requires.stands sound)) c.save.ensures.stands writes))
+    (read_keeps old.content c.args.seen.now (c.requires.read.stands sound)) c.save.ensures.stands writes))
 
 pub returns-then-changed-clause-durable : goal.returns-then-changed-clause-durable
 returns-then-changed-clause-durable g c = λ kept safe. (
@@ -84,7 +84,7 @@ unchanged g c sound =
     let was = c.args.seen.now.rows in
     let fresh : c.args.seen.now.stale ≡ false = rw (c.in_ok-changed.ensures.after, c.close.ensures.after) at
     (sym c.needs_rewrite-else-changed.ensures ∙ c.if-needs_rewrite-2.false) in
-    let steady = read_steady (g.F.FlatFile.stored c.args.file.now).content c.args.seen.now (c.requires.stands sound) fresh in
+    let steady = read_steady (g.F.FlatFile.stored c.args.file.now).content c.args.seen.now (c.requires.read.stands sound) fresh in
     let same = rw (c.deref.ensures.value, c.close.ensures.after) at (ap (λ (loaded : Loaded). loaded.rows)
     (sym c.in_ok-changed.ensures.after ∙ OnFalse_at c.if-changed.false c.in_ok-changed.ensures.unchanged)) in
     subst (λ (rows : List Row). Steady (g.F.FlatFile.stored c.args.file.now).content (none_open rows))

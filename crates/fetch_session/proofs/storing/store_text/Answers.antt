@@ -15,7 +15,7 @@ returns-in-Err-clause-stores g c = (
   [],
   λ d. let starts = c.in-Err.ensures.starts d in (
     starts.0,
-    ⊎_elim inl (λ same. inr (same.0, inl (same.1 ∙ ap maildir_refused (sym (dropped_none_begun _ (c.requires.none_begun starts.0))))))
+    ⊎_elim inl (λ same. inr (same.0, inl (same.1 ∙ ap maildir_refused (sym (dropped_none_begun _ (c.requires.free starts.0).none_begun)))))
         starts.1,
   ),
   λ w. (w, g.met.W.Wire.leads_same c.args.client.now.wire.now, λ number start now. (now, λ done. absurd (c.requires.open done))),
@@ -28,7 +28,7 @@ returns-in-Err-next_piece-clause-stores g c =
       λ d.
           let drops = c.abandon.ensures.drops d in
           let was = inv.2 drops.0 in
-          (was.0, rw c.from.ensures (drops.1 ∙ ap dropped was.1 ∙ dropped_none_begun _ (c.requires.none_begun was.0))),
+          (was.0, rw c.from.ensures (drops.1 ∙ ap dropped was.1 ∙ dropped_none_begun _ (c.requires.free was.0).none_begun)),
       and_then g.W.Wire g.met.W.Wire.leads_on inv.3 c.in-Err-next_piece.ensures.takes (λ before took number start now. rw c.from.ensures
           (c.in-Err-next_piece.fault, refl, inr (inl (took number start inv.0 (before number start now))))),
     )
@@ -68,12 +68,12 @@ settle_file-requires-clause-begun g c = λ d. ap (λ (m : Maildir). is_some m.be
 pub settle_file-requires-clause-not_there : goal.settle_file-requires-clause-not_there
 settle_file-requires-clause-not_there g c = λ d there.
     let now = put g (goal.at.settle_file-requires-clause-not_there g c).After-put_piece (c.in_default-put_piece.ensures.puts d) in
-    c.requires.not_there now.0 _ (rw now.1 at there)
+    (c.requires.free now.0).not_there _ (rw now.1 at there)
 
 pub settle_file-requires-clause-named : goal.settle_file-requires-clause-named
 settle_file-requires-clause-named g c = λ d.
     let now = put g (goal.at.settle_file-requires-clause-named g c).After-put_piece (c.in_default-put_piece.ensures.puts d) in
-    rw now.1 (c.requires.named now.0)
+    rw now.1 (c.requires.free now.0).named
 
 pub returns-in-Ok-settle_file-clause-stores : goal.returns-in-Ok-settle_file-clause-stores
 returns-in-Ok-settle_file-clause-stores g c =

@@ -5,7 +5,7 @@ use Rattle.fetch_session.{
   proofs.{SceneLemmas.{held_is, all_sound, link_alone}, SessionLemmas.same_left},
   proofs.TextLemmas.{named_more, stores_grows, text_broken, text_stops, text_stored, text_not_saved},
   proofs.TalkLemmas.{took_talked, takes_stopped, before_cut, err_is, did_both},
-  proofs.PartLemmas.{link_broke, link_idle, link_then_cut, marked_ledger, same_ledger},
+  proofs.PartLemmas.{filed, link_broke, link_idle, link_then_cut, marked_ledger, same_ledger},
   proofs.storing.take_into_maildir.Goals.{After-note, After-store_text, In_ok-length},
 }
 use Rattle.pop3_client.specs.{declared.fault.ClientFault.TheVariants.NoMemory, Client.link_of, Turns.{most, retr}}
@@ -13,11 +13,15 @@ use Rattle.mail_store.specs.{Maildir.IsThere, FileName.{sized, sized_file, stem_
 use Rattle.pop3_wire.proofs.LinkLemmas.{and_then, in_words}
 use Rattle.fetch_session.proofs.storing.take_into_maildir.Goals as goal
 
-pub store_text-requires-clause-not_there : goal.store_text-requires-clause-not_there
-store_text-requires-clause-not_there g c = λ kept size there.
-    c.unheld_ids_are_not_there.ensures c.args.account.now c.args.uid.now size (g.D.MaildirDisk.maildir c.args.disk.now)
-    c.requires.digits (c.requires.free kept)
-    (subst (λ (stem : List ℕ). IsThere (g.D.MaildirDisk.maildir c.args.disk.now) (sized stem size)) c.in_ok-stem.ensures.stem there)
+pub store_text-requires-clause-free : goal.store_text-requires-clause-free
+store_text-requires-clause-free g c = λ kept. record {
+  none_begun = c.requires.ready.none_begun kept;
+  not_there = λ size there.
+      c.unheld_ids_are_not_there.ensures c.args.account.now c.args.uid.now size (g.D.MaildirDisk.maildir c.args.disk.now)
+      c.requires.digits (c.requires.free kept).1
+      (subst (λ (stem : List ℕ). IsThere (g.D.MaildirDisk.maildir c.args.disk.now) (sized stem size)) c.in_ok-stem.ensures.stem there);
+  named = (c.requires.named kept).0;
+}
 
 grown : (g : _) (c : After-store_text g) → g.D.MaildirDisk.sound c.store_text.new.disk → g.D.MaildirDisk.sound c.args.disk.now
     × MayGain (stem_of c.args.account.now c.args.uid.now) (g.D.MaildirDisk.maildir c.args.disk.now)
@@ -26,20 +30,20 @@ grown g c d =
     let stored = c.store_text.ensures.stores.1 d in (
       stored.0,
       rw c.in_ok-stem.ensures.stem at (stores_grows _ _ (string_bytes c.in_ok-stem.stem) c.store_text.ensures.stores.0 c.store_text.result
-          (c.requires.none_begun stored.0) stored.1),
+          (c.requires.ready.none_begun stored.0) stored.1),
     )
 
 pub remember-requires-clause-steady : goal.remember-requires-clause-steady
-remember-requires-clause-steady g c = λ f. rw c.requires.ready.closed (c.requires.ready.steady f)
+remember-requires-clause-steady g c = λ f. rw c.requires.ready.written.closed (c.requires.ready.written.steady f)
 
 -- a line is noted for the text
 noted : (g : _) (c : After-note g) → AddsLines c.args.ledger.now.lines 1 c.note.new.lines
 noted g c = (omega (arith, c.note.ensures.len), c.note.ensures.capacity)
 
 pub returns-in_err-stem : goal.returns-in_err-stem
-returns-in_err-stem g c = rw (err_is c.from_residual.ensures.1) (record {
-  link = link_idle;
-  ledger = same_ledger c.args.uid.now c.args.ledger.now _ c.requires.ready;
+returns-in_err-stem g c = rw (err_is c.from_residual.ensures.1) (filed c.one_more_is_held.ensures c.requires.ready.written (record {
+  talk = link_idle;
+  ledger = same_ledger c.args.uid.now c.args.ledger.now _ c.requires.ready.written;
   grows = search rules;
   takes = link_alone (λ w. (
     w,
@@ -47,27 +51,28 @@ returns-in_err-stem g c = rw (err_is c.from_residual.ensures.1) (record {
     text_broken (AsFiles c.args.account.now) NoMemory refl (inr (inr (refl, refl, refl))),
   ));
   keeps = search rules;
-  durable = λ d f safe. (tt, inl (same_left g.F.FlatFile c.args.ledger.now.file safe (c.requires.ready.steady f)));
-})
+  durable = λ d f safe. (tt, inl (same_left g.F.FlatFile c.args.ledger.now.file safe (c.requires.ready.written.steady f)));
+}))
 
 pub returns-in_err-body : goal.returns-in_err-body
-returns-in_err-body g c = rw (err_is c.from_residual-in_err-body.ensures.1) (record {
-  link = link_broke c.conversations_are_paced.ensures (retr c.args.number) c.in_err-body.field-0.0 c.open.ensures.link
-      c.in_err-body.ensures.counted c.in_err-body.ensures.opens;
-  ledger = same_ledger c.args.uid.now c.args.ledger.now _ c.requires.ready;
-  grows = search rules;
-  takes = link_alone (in_words g.W.Wire c.in_err-body.ensures.opens
-      (text_broken (AsFiles c.args.account.now) c.in_err-body.field-0.0 refl));
-  keeps = search rules;
-  durable = λ d f safe. (tt, inl (same_left g.F.FlatFile c.args.ledger.now.file safe (c.requires.ready.steady f)));
-})
+returns-in_err-body g c = rw (err_is c.from_residual-in_err-body.ensures.1)
+    (filed c.one_more_is_held.ensures c.requires.ready.written (record {
+      talk = link_broke c.conversations_are_paced.ensures (retr c.args.number) c.in_err-body.field-0.0 c.open.ensures.link
+          c.in_err-body.ensures.counted c.in_err-body.ensures.opens;
+      ledger = same_ledger c.args.uid.now c.args.ledger.now _ c.requires.ready.written;
+      grows = search rules;
+      takes = link_alone (in_words g.W.Wire c.in_err-body.ensures.opens
+          (text_broken (AsFiles c.args.account.now) c.in_err-body.field-0.0 refl));
+      keeps = search rules;
+      durable = λ d f safe. (tt, inl (same_left g.F.FlatFile c.args.ledger.now.file safe (c.requires.ready.written.steady f)));
+    }))
 
 pub returns-in_err-length : goal.returns-in_err-length
 returns-in_err-length g c =
     let stores = c.in_err-length.ensures.stores in
     let cut = c.in_err-length.field-0.0 in
-    rw (err_is c.from_residual-in_err-length.ensures.1) (record {
-      link = record {
+    rw (err_is c.from_residual-in_err-length.ensures.1) (filed c.one_more_is_held.ensures c.requires.ready.written (record {
+      talk = record {
         same = c.store_text.ensures.link ∙ c.open.ensures.link;
         counted = before_cut (link_of g.W.Wire c.args.client.now) (link_of g.W.Wire c.open.new.self)
             (link_of g.W.Wire c.store_text.new.client) cut c.in_ok-body.ensures.counted c.in_err-length.ensures.counted;
@@ -75,15 +80,15 @@ returns-in_err-length g c =
             (λ opened link. takes_stopped c.conversations_are_paced.ensures c.args.number _ _ _ cut.fault cut.rest
             (link c.args.number _ opened));
       };
-      ledger = same_ledger c.args.uid.now c.args.ledger.now _ c.requires.ready;
+      ledger = same_ledger c.args.uid.now c.args.ledger.now _ c.requires.ready.written;
       grows = λ d. let grew = grown g (goal.at.returns-in_err-length g c).After-store_text d in (grew.0, grew.1, tt);
       takes = all_sound (and_then g.W.Wire g.met.W.Wire.leads_on c.in_ok-body.ensures.opens stores.2
           (λ opened link. link c.args.number _ opened)) stores.1 (λ f. (f, tt {0}))
           (λ link stored same. text_stops stores.0 (string_bytes c.in_ok-stem.stem) cut.fault cut.rest
           c.in_ok-stem.ensures.stem stored link);
       keeps = λ f rows last. last;
-      durable = λ d f safe. (tt, inl (same_left g.F.FlatFile c.args.ledger.now.file safe (c.requires.ready.steady f)));
-    })
+      durable = λ d f safe. (tt, inl (same_left g.F.FlatFile c.args.ledger.now.file safe (c.requires.ready.written.steady f)));
+    }))
 
 -- the text was read
 stored : (g : _) (c : In_ok-length g)
@@ -100,30 +105,30 @@ returns g c =
     let here = goal.at.returns g c in
     let stores = c.in_ok-length.ensures.stores in
     let marks = c.in_ok-remember.ensures in
-    record {
-      link = stored g here.In_ok-length;
+    filed c.one_more_is_held.ensures c.requires.ready.written (record {
+      talk = stored g here.In_ok-length;
       ledger = marked_ledger (Ok tt) c.marked_keeps_rows.ensures refl (noted g here.After-note) (λ f. (marks.saves f).0)
           (marks.rows, record { closed = marks.closed; steady = λ f. (marks.steady f).1 }) (λ f. (c.remember.ensures.keeps f).1);
       grows = λ d. let grew = grown g here.After-store_text d in (
         grew.0,
         grew.1,
-        rw (stores.1 d).1.0 (named_more (g.D.MaildirDisk.maildir c.args.disk.now).files _ (c.requires.named grew.0) refl),
+        rw (stores.1 d).1.0 (named_more (g.D.MaildirDisk.maildir c.args.disk.now).files _ (c.requires.named grew.0).0 refl),
       );
       takes = all_sound (and_then g.W.Wire g.met.W.Wire.leads_on c.in_ok-body.ensures.opens stores.2
           (λ opened link. link c.args.number _ opened)) stores.1 marks.saves
           (λ link stored saved. text_stored c.in_ok-length.length stores.0 (string_bytes c.in_ok-stem.stem)
-          c.in_ok-stem.ensures.stem stored link marks.rows (rw c.requires.ready.closed at saved) c.note.ensures.items);
+          c.in_ok-stem.ensures.stem stored link marks.rows (rw c.requires.ready.written.closed at saved) c.note.ensures.items);
       keeps = λ f. (c.remember.ensures.keeps f).0;
       durable = λ d f safe. (marks.durable f safe, tt);
-    }
+    })
 
 pub returns-in_err-remember : goal.returns-in_err-remember
 returns-in_err-remember g c =
     let here = goal.at.returns-in_err-remember g c in
     let stores = c.in_ok-length.ensures.stores in
     let marks = c.in_err-remember.ensures in
-    rw (err_is c.from_residual-in_err-remember.ensures.1) (record {
-      link = link_then_cut (stored g here.In_ok-length);
+    rw (err_is c.from_residual-in_err-remember.ensures.1) (filed c.one_more_is_held.ensures c.requires.ready.written (record {
+      talk = link_then_cut (stored g here.In_ok-length);
       ledger = marked_ledger (Err _) c.marked_keeps_rows.ensures refl (noted g here.After-note) (λ f. (marks.saves f).0)
           tt (λ f. (c.remember.ensures.keeps f).1);
       grows = λ d. let grew = grown g here.After-store_text d in (grew.0, grew.1, tt);
@@ -133,8 +138,8 @@ returns-in_err-remember g c =
           c.in_err-remember.field-0.0 c.in_ok-stem.ensures.stem stored link
           (subst (λ (h : RecordState). Saves (g.F.FlatFile.stored c.args.ledger.now.file) h
           (none_open (marked c.args.ledger.now.seen.rows c.args.uid.now)) (Err c.in_err-remember.field-0.0)
-          (g.F.FlatFile.stored c.remember.new.file)) (sym (held_is c.args.ledger.now.seen c.requires.ready.closed))
+          (g.F.FlatFile.stored c.remember.new.file)) (sym (held_is c.args.ledger.now.seen c.requires.ready.written.closed))
           saved) c.note.ensures.items);
       keeps = λ f. (c.remember.ensures.keeps f).0;
       durable = λ d f safe. (tt, inr (sized_file (string_bytes c.in_ok-stem.stem) stores.0, rw (stores.1 d).1.0 refl, (refl, refl)));
-    })
+    }))
