@@ -61,7 +61,7 @@ err_if P (Err _) p = p
 
 -- a task was cut before its id was marked
 pub same_ledger : {F H Z : Type 0} {file : FileGhosts F} (uid : List ℕ) (ledger : Ledger F H Z) (cut : Cut)
-    → IsWritten file ledger → KeepsLedger file uid ledger (Err cut) ledger
+    → IsWritten file ledger.file ledger.seen → KeepsLedger file uid ledger (Err cut) ledger
 same_ledger {file = file} uid ledger cut written = record {
   lines = (omega arith, omega arith);
   sound = λ f. f;
@@ -75,7 +75,7 @@ pub marked_ledger : {F H Z : Type 0} {file : FileGhosts F} {uid : List ℕ} {old
     {intent : Option Intent} (r : Result (Unit {0}) Cut)
     → ((rows : List Row) (uid other : List ℕ) → has_row (marked rows uid) other ≡ has_row rows other)
     → rows ≡ old.seen.rows → AddsLines old.lines 1 new.lines → (file.sound new.file → file.sound old.file)
-    → OnOk r ((new.seen.rows ≡ marked rows uid) × IsWritten file new) → (file.sound new.file → IsSafeFile file old.file
+    → OnOk r ((new.seen.rows ≡ marked rows uid) × IsWritten file new.file new.seen) → (file.sound new.file → IsSafeFile file old.file
     → LeavesFile file new.file (IsGrownAtMost (record_state rows intent) (none_open (marked rows uid)))) → KeepsLedger file uid old r new
 marked_ledger {file = file} {uid} {old} {new} {rows} {intent} r law same lines sound marks left = record {
   lines = lines;
@@ -336,7 +336,7 @@ module _ {D F H Z : Type 0} {disk : DiskGhosts D} {file : FileGhosts F} where
   -- a text that is stored
   pub runs_taking : {W : Type 0} {link : WireGhosts W} {account : List ℕ} → OneMore
       → (number : ℕ) (uid : List ℕ) {c c' : Client W} {w w' : Work D F H Z} (r : Result (Unit {0}) Cut)
-      → IsWritten file w.ledger → KeepsLink link (TookTillCut (line_limit + text_limit)) c r c'
+      → IsWritten file w.ledger.file w.ledger.seen → KeepsLink link (TookTillCut (line_limit + text_limit)) c r c'
       → KeepsLedger file uid w.ledger r w'.ledger → kind_of w'.store ≡ kind_of w.store
       → (is_sound disk file w'.store → is_sound disk file w.store
       × MayGain (stem_of account uid) (stores_of disk file w.store).maildir (stores_of disk file w'.store).maildir
@@ -425,7 +425,7 @@ pub record Filed {W D F H Z : Type 0} (link : WireGhosts W) (disk : DiskGhosts D
 
 pub filed : {W D F H Z : Type 0} {link : WireGhosts W} {disk : DiskGhosts D} {file : FileGhosts F} {account : List ℕ}
     {number : ℕ} {uid : List ℕ} {c : Client W} {d : D} {l : Ledger F H Z} {r : Result (Unit {0}) Cut} {c' : Client W} {d' : D}
-    {l' : Ledger F H Z} → OneMore → IsWritten file l → Filed link disk file account number uid c d l r c' d' l'
+    {l' : Ledger F H Z} → OneMore → IsWritten file l.file l.seen → Filed link disk file account number uid c d l r c' d' l'
     → RunsTasks link disk file account (stores number uid ∷ []) c (over_maildir d l) r c' (over_maildir d' l')
 filed {number = number} {uid} {l = l} {r} law written is =
     runs_taking law number uid r written is.talk is.ledger refl is.grows is.takes (λ d f. (
@@ -455,7 +455,7 @@ pub record Entered {W D F H Z : Type 0} (link : WireGhosts W) (disk : DiskGhosts
 
 pub entered : {W D F H Z : Type 0} {link : WireGhosts W} {disk : DiskGhosts D} {file : FileGhosts F} {number : ℕ}
     {uid : List ℕ} {c : Client W} {m : F} {l : Ledger F H Z} {r : Result (Unit {0}) Cut} {c' : Client W} {m' : F}
-    {l' : Ledger F H Z} → OneMore → IsWritten file l → Entered link disk file number uid c m l r c' m' l' → (account : List ℕ)
+    {l' : Ledger F H Z} → OneMore → IsWritten file l.file l.seen → Entered link disk file number uid c m l r c' m' l' → (account : List ℕ)
     → RunsTasks link disk file account (stores number uid ∷ []) c (over_mbox m l) r c' (over_mbox m' l')
 entered {number = number} {uid} {r = r} law written is account =
     runs_taking law number uid r written is.talk is.ledger refl

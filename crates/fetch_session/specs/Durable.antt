@@ -111,6 +111,12 @@ pub record IsGrownAtMost (was now : RecordState) (left : Option (List ℕ)) : Ty
   pub file : IsRecordLeft was added left
   pub grows : (file.behind ≡ []) ⊎ Grows was.rows was.intent added now.rows now.intent
 
+-- a record's file was to grow from one record to the other: rows that were durable still are, and of a safe file one of
+-- the two is left, perhaps with a part of what was appended
+abbrev pub KeepsGrowing : {F : Type 0} → FileGhosts F → RecordState → RecordState → F → F → Type 0
+KeepsGrowing file was now old new = ((rows : List Row) → StillDurable file rows old new)
+    × (IsSafeFile file old → LeavesFile file new (IsGrownAtMost was now))
+
 -- these rows are left, and what there may be of one group or intent behind them makes no others of them than those
 pub record AreLeft (rows others : List Row) (left : Option (List ℕ)) : Type 0 where
   pub before : Option Intent

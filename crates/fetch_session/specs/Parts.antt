@@ -6,7 +6,7 @@ use Rattle.mail_store.specs.{
   FileName.IsAccountText,
   Maildir.AllNamed,
 }
-use Rattle.fetch_record.specs.{Intents.IsNoneOrOf, Record.{Row, has_row, marked, none_open}}
+use Rattle.fetch_record.specs.{Intents.IsNoneOrOf, Record.{Loaded, Row, has_row, marked, none_open}}
 use Rattle.pop3_client.specs.{
   Client.{HasSameLink, link_of, place_of},
   Conversation.most_of,
@@ -43,15 +43,15 @@ abbrev pub over_mbox : {D F H Z : Type 0} → F → Ledger F H Z → Work D F H 
 over_mbox mbox ledger = record { store = Mboxrd mbox; ledger = ledger }
 
 -- no intent is open, and the record's file stands for the rows, with no torn end
-pub record IsWritten {F H Z : Type 0} (file : FileGhosts F) (ledger : Ledger F H Z) : Type 0 where
-  pub closed : ledger.seen.intent ≡ None
-  pub steady : file.sound ledger.file → Steady (file.stored ledger.file).content (none_open ledger.seen.rows)
+pub record IsWritten {F : Type 0} (file : FileGhosts F) (f : F) (seen : Loaded) : Type 0 where
+  pub closed : seen.intent ≡ None
+  pub steady : file.sound f → Steady (file.stored f).content (none_open seen.rows)
 
 -- ready for the next task: no file is begun, and all is written down
 pub record IsReadyForNext {D F H Z : Type 0} (disk : DiskGhosts D) (file : FileGhosts F)
     (work : Work D F H Z) : Type 0 where
   pub none_begun : NoneBegun disk file work.store
-  pub written : IsWritten file work.ledger
+  pub written : IsWritten file work.ledger.file work.ledger.seen
 
 -- what is known of a call if the link, the store and the record's file are sound after it
 abbrev pub WhereWorkSound : {W D F H Z : Type 0} → WireGhosts W → DiskGhosts D → FileGhosts F → Client W → Work D F H Z
@@ -98,7 +98,7 @@ pub record KeepsLedger {F H Z : Type 0} (file : FileGhosts F) (uid : List ℕ) (
     (new : Ledger F H Z) : Type 0 where
   pub lines : AddsLines old.lines 1 new.lines
   pub sound : file.sound new.file → file.sound old.file
-  pub written : OnOk result (IsWritten file new)
+  pub written : OnOk result (IsWritten file new.file new.seen)
   pub rows : OnOk result ((uid : List ℕ) → has_row old.seen.rows uid ≡ true → has_row new.seen.rows uid ≡ true)
   pub left : file.sound new.file → IsSafeFile file old.file
       → LeavesFile file new.file (AreLeft old.seen.rows (marked old.seen.rows uid))

@@ -80,6 +80,10 @@ abbrev pub StandsTill : Stored → ℕ → List Row → Type 0
 StandsTill stored size rows = HasBytes stored size
     × Steady (Some (take size (bytes_in stored.content))) (none_open rows)
 
+-- the file stands for these rows with this intent open, and up to this size for the rows alone
+abbrev pub OpensAt : Stored → ℕ → List Row → Intent → Type 0
+OpensAt stored size rows intent = Steady stored.content (with_open rows intent) × StandsTill stored size rows
+
 -- a record read from the file was merged and saved; or, refused, the file stands for the old or the
 -- new one; or memory ran out, and nothing was done
 abbrev pub Merges : Stored → RecordState → RecordState → Result (Unit {0}) Fault → Stored → Type 0

@@ -66,7 +66,7 @@ fn append_text<F: FlatFile, H: BuildHasher>(
     requires whole { IsWhole text.items }
     requires legal { IsLegalId uid.now }
     requires row { has_row ledger.old.seen.rows uid.now ≡ true }
-    requires ready { IsWritten F.FlatFile ledger.old }
+    requires ready { IsWritten F.FlatFile ledger.old.file ledger.old.seen }
     ensures ledger { KeepsRecord F.FlatFile uid.now ledger.old result ledger.new }
     ensures before { F.sound mbox.new → F.sound mbox.old }
     ensures appends { F.sound mbox.new → F.sound ledger.new.file → F.sound mbox.old × F.sound ledger.old.file
@@ -103,7 +103,7 @@ pub(crate) fn take_into_mbox<W: Wire, D: MaildirDisk, F: FlatFile, H: BuildHashe
     uid: &[u8],
 ) -> Result<(), Cut>
     requires room { HasRoom ledger.old.lines 1 }
-    requires ready { IsWritten F.FlatFile ledger.old }
+    requires ready { IsWritten F.FlatFile ledger.old.file ledger.old.seen }
     requires legal { IsLegalId uid.now }
     requires row { has_row ledger.old.seen.rows uid.now ≡ true }
     ensures { (account : List ℕ) → RunsTasks W.Wire D.MaildirDisk F.FlatFile account (stores number uid.now ∷ [])

@@ -9,10 +9,11 @@ ghost use Rattle.fetch_record.specs.{
   RecordGrowth.Grows,
 };
 ghost use Rattle.fetch_session.specs.{
-  Record.{WritesRecord, Saves, StandsTill, Steady, TakesBack, TellsSize, bytes_in, intent_at, record_state_in},
+  Record.{OpensAt, WritesRecord, Saves, StandsTill, Steady, TakesBack, TellsSize, bytes_in, intent_at, record_state_in},
   Record.with_open,
   Mbox.went,
-  Durable.{IsGrownAtMost, IsRecordLeft, IsSafeFile, LeavesFile, LeavesLeft, StillDurable},
+  Durable.{IsRecordLeft, IsSafeFile, KeepsGrowing, LeavesFile, LeavesLeft, StillDurable},
+  Parts.IsWritten,
 };
 ghost use Rattle.mail_store.specs.{
   Durable.{Trusted, MayLeave},
@@ -94,21 +95,17 @@ pub(crate) fn intend<F: FlatFile, H: BuildHasher>(
 ) -> Result<u64, Fault>
     requires legal { IsLegalId uid.now }
     requires row { has_row seen.old.rows uid.now ≡ true }
-    requires closed { seen.old.intent ≡ None }
-    requires steady { F.sound file.old → Steady (F.stored file.old).content (none_open seen.old.rows) }
+    requires written { IsWritten F.FlatFile file.old seen.old }
     ensures rows { seen.new.rows ≡ seen.old.rows }
     ensures opened { OnOk result (seen.new.intent ≡ Some (intent_at uid.now start len)) }
     ensures steady { F.sound file.new → F.sound file.old
-        × IfOk result (λ size. Steady (F.stored file.new).content
-        (with_open seen.old.rows (intent_at uid.now start len))
-        × StandsTill (F.stored file.new) size seen.old.rows) }
+        × IfOk result (λ size. OpensAt (F.stored file.new) size seen.old.rows (intent_at uid.now start len)) }
     ensures saves { F.sound file.new → F.sound file.old
         × Saves (F.stored file.old) (none_open seen.old.rows)
         (with_open seen.old.rows (intent_at uid.now start len)) (went result)
         (F.stored file.new) }
-    ensures keeps { F.sound file.new → ((rows : List Row) → StillDurable F.FlatFile rows file.old file.new)
-        × (IsSafeFile F.FlatFile file.old → LeavesFile F.FlatFile file.new (IsGrownAtMost (none_open seen.old.rows)
-        (with_open seen.old.rows (intent_at uid.now start len)))) }
+    ensures keeps { F.sound file.new → KeepsGrowing F.FlatFile (none_open seen.old.rows)
+        (with_open seen.old.rows (intent_at uid.now start len)) file.old file.new }
     ensures durable { F.sound file.new → IsSafeFile F.FlatFile file.old → OnOk result (IsSafeFile F.FlatFile file.new) }
 {
     let line = seen.intend(uid, start, len)?;
@@ -148,10 +145,8 @@ pub(crate) fn remember<F: FlatFile, H: BuildHasher>(
     ensures saves { F.sound file.new → F.sound file.old
         × Saves (F.stored file.old) (record_state_in seen.old) (none_open (marked seen.old.rows uid.now)) result
         (F.stored file.new) }
-    ensures keeps { F.sound file.new → ((rows : List Row) → StillDurable F.FlatFile rows file.old file.new)
-        × (IsSafeFile F.FlatFile file.old
-        → LeavesFile F.FlatFile file.new (IsGrownAtMost (record_state_in seen.old)
-        (none_open (marked seen.old.rows uid.now)))) }
+    ensures keeps { F.sound file.new → KeepsGrowing F.FlatFile (record_state_in seen.old)
+        (none_open (marked seen.old.rows uid.now)) file.old file.new }
     ensures durable { F.sound file.new → IsSafeFile F.FlatFile file.old → OnOk result (IsSafeFile F.FlatFile file.new) }
 {
     let group = seen.mark_rows(uid)?;

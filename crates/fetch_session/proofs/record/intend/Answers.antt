@@ -12,7 +12,7 @@ use Rattle.fetch_session.proofs.record.intend.Goals as goal
 pub measure-requires : goal.measure-requires
 measure-requires g c = record {
   begun = λ kept. row_begun (g.F.FlatFile.stored c.args.file.now).content c.args.seen.now.rows None c.args.uid.now
-      (c.requires.steady kept) c.requires.row;
+      (c.requires.written.steady kept) c.requires.row;
 }
 
 pub grow-requires : goal.grow-requires
@@ -20,7 +20,7 @@ grow-requires g c = record {
   begun = λ kept some.
       let told = c.in_ok-size.ensures.size kept in
       row_begun (g.F.FlatFile.stored c.measure.new.file).content c.args.seen.now.rows None c.args.uid.now
-      (rw told.1.1 (c.requires.steady told.0)) c.requires.row;
+      (rw told.1.1 (c.requires.written.steady told.0)) c.requires.row;
 }
 
 -- the line that was appended opens the intent
@@ -84,7 +84,7 @@ returns-clause-steady g c = λ kept.
     let rows = c.args.seen.now.rows in
     let intent = intent_at c.args.uid.now c.args.start c.args.len in
     let told = c.in_ok-size.ensures.size (c.in_ok-grow.ensures.saves kept).0 in
-    let stood = c.requires.steady told.0 in
+    let stood = c.requires.written.steady told.0 in
     let saves = (returns-clause-saves g c kept).1 in
     let steady = saves.1 stood in (
       told.0,
@@ -101,7 +101,7 @@ returns-in_err-line-clause-keeps g c =
     λ kept. (
       λ rows last. last,
       λ safe. same_grown g.F.FlatFile c.args.file.now (none_open c.args.seen.now.rows)
-          (with_open c.args.seen.now.rows (intent_at c.args.uid.now c.args.start c.args.len)) safe (c.requires.steady kept),
+          (with_open c.args.seen.now.rows (intent_at c.args.uid.now c.args.start c.args.len)) safe (c.requires.written.steady kept),
     )
 
 pub returns-in_err-size-clause-keeps : goal.returns-in_err-size-clause-keeps
@@ -114,7 +114,7 @@ returns-in_err-size-clause-keeps g c = λ kept.
           (Err c.in_err-size.field-0.0) told.1) no_more (IsGrownAtMost (none_open c.args.seen.now.rows)
           (with_open c.args.seen.now.rows (intent_at c.args.uid.now c.args.start c.args.len)))
           (same_grown g.F.FlatFile c.args.file.now (none_open c.args.seen.now.rows)
-          (with_open c.args.seen.now.rows (intent_at c.args.uid.now c.args.start c.args.len)) safe (c.requires.steady told.0)),
+          (with_open c.args.seen.now.rows (intent_at c.args.uid.now c.args.start c.args.len)) safe (c.requires.written.steady told.0)),
     )
 
 -- whether the line was appended or not
@@ -129,7 +129,7 @@ kept g c sound =
       λ safe. part_grown g.F.FlatFile c.grow.new.file (none_open c.args.seen.now.rows)
           (with_open c.args.seen.now.rows (intent_at c.args.uid.now c.args.start c.args.len)) c.deref.result.now (grows g c)
           (c.grow.ensures.leaves sound (c.in_ok-size.ensures.durable before safe.0) (none_open c.args.seen.now.rows)
-          (rw told.1.1 (c.requires.steady told.0))).0,
+          (rw told.1.1 (c.requires.written.steady told.0))).0,
     )
 
 pub returns-in_err-grow-clause-keeps : goal.returns-in_err-grow-clause-keeps
