@@ -12,6 +12,26 @@ use pop3_client::Asked;
 use std::alloc::{AllocError, Global};
 use trace::Said;
 
+/// Two texts that follow each other.
+fn concat(alloc: Global, first: &[u8], second: &[u8]) -> Result<Vec<u8>, AllocError>
+    ensures { IfOk result (λ text. text.items ≡ first.now ++ second.now) }
+{
+    [first, second].concat(alloc)
+}
+
+/// Four texts that follow each other.
+fn concat_four(
+    alloc: Global,
+    first: &[u8],
+    second: &[u8],
+    third: &[u8],
+    fourth: &[u8],
+) -> Result<Vec<u8>, AllocError>
+    ensures { IfOk result (λ text. text.items ≡ first.now ++ (second.now ++ (third.now ++ fourth.now))) }
+{
+    [first, second, third, fourth].concat(alloc)
+}
+
 /// The part of a conversation that was under way.
 fn place_in(alloc: Global, said: &Said) -> Result<Vec<u8>, AllocError>
     ensures { IfOk result (λ place. place.items ≡ place_in said.now) }
@@ -19,7 +39,7 @@ fn place_in(alloc: Global, said: &Said) -> Result<Vec<u8>, AllocError>
     if said.command.is_empty() {
         return Vec::from_slice(alloc, b"before the greeting");
     }
-    [b"in the reply to ".as_slice(), &said.command].concat(alloc)
+    concat(alloc, b"in the reply to ", &said.command)
 }
 
 /// Words, and the part of the conversation that was under way.
@@ -27,7 +47,7 @@ fn at_place(alloc: Global, words: &[u8], said: &Said) -> Result<Vec<u8>, AllocEr
     ensures { IfOk result (λ text. text.items ≡ words.now ++ place_in said.now) }
 {
     let place = place_in(alloc, said)?;
-    [words, &place].concat(alloc)
+    concat(alloc, words, &place)
 }
 
 /// The first text, unless it is empty.
@@ -53,7 +73,7 @@ fn refused_at(alloc: Global, found: &Findings<'_>, path: &str) -> Result<Vec<u8>
     ensures { IfOk result (λ text. text.items
         ≡ or_else found.now.refused.items (path.now ++ codes ": the system gave no reason")) }
 {
-    let text = [path.as_bytes(), b": the system gave no reason"].concat(alloc)?;
+    let text = concat(alloc, path.as_bytes(), b": the system gave no reason")?;
     or_else(alloc, &found.refused, text)
 }
 
@@ -74,33 +94,35 @@ fn reason_text(alloc: Global, fault: &Fault, found: &Findings<'_>) -> Result<Vec
             or_else(alloc, &found.refused, at_place(alloc, b"it failed ", said)?)
         }
         Fault::ReplyTooLong => at_place(alloc, b"2048 octets hold no whole line, ", said),
-        Fault::BadReply | Fault::Refused(_) => [
-            b"the server said: ".as_slice(),
-            &said.answer,
-        ].concat(alloc),
+        Fault::BadReply | Fault::Refused(_) => concat(alloc, b"the server said: ", &said.answer),
         Fault::BadListing => {
-            [b"the reply to ", command, b" has the row: ", &said.row].concat(alloc)
+            concat_four(
+                alloc,
+                b"the reply to ",
+                command,
+                b" has the row: ",
+                &said.row,
+            )
         }
         Fault::ListingsDisagree => {
-            let rows = rows_text(alloc, said)?;
-            [
-                b"the answer to STAT is ",
-                said.count.as_slice(),
-                rows.as_bytes(),
-            ]
-            .concat(alloc)
+            let counts = concat(alloc, &said.count, rows_text(alloc, said)?.as_bytes())?;
+            concat(alloc, b"the answer to STAT is ", &counts)
         }
         Fault::TooMany => {
-            let words = b"100000 can be fetched; the answer to ".as_slice();
-            [words, command, b" is ", &said.answer].concat(alloc)
+            let words = b"100000 can be fetched; the answer to ";
+            concat_four(alloc, words, command, b" is ", &said.answer)
         }
         Fault::TextTooLong => at_place(alloc, b"268435456 octets hold no whole message, ", said),
-        Fault::StoreRefused(Why::NotMbox) => [found.destination.as_bytes(), NO_MBOX].concat(alloc),
+        Fault::StoreRefused(Why::NotMbox) => concat(alloc, found.destination.as_bytes(), NO_MBOX),
         Fault::StoreRefused(_) => refused_at(alloc, found, found.destination),
         Fault::SeenRefused => refused_at(alloc, found, found.record),
         Fault::NoMemory => at_place(alloc, b"it ran out ", said),
         Fault::BadSeen(_) => {
-            [found.record.as_bytes(), b": a record has no such line"].concat(alloc)
+            concat(
+                alloc,
+                found.record.as_bytes(),
+                b": a record has no such line",
+            )
         }
     }
 }
@@ -215,7 +237,7 @@ fn reasons_of(
     let reason = reason_text(alloc, fault, found)?;
     let line = line_of(alloc, settings, &reason)?;
     let hint = line_with(alloc, settings, hint_text(settings, fault, found))?;
-    [line.as_slice(), &hint].concat(alloc)
+    concat(alloc, &line, &hint)
 }
 
 /// What is said of an outcome, if reasons are asked for.
