@@ -43,8 +43,8 @@ same_base a b e other =
 
 -- ---- the order of bases
 
-not_before : (a b : List ℕ) → IsBefore a b → a ≢ b
-not_before a b h e =
+before_differs : (a b : List ℕ) → IsBefore a b → a ≢ b
+before_differs a b h e =
     let itself : slice_cmp nat_cmp a a ≡ Less = subst (λ (x : List ℕ). slice_cmp nat_cmp a x ≡ Less) (sym e) h in
     let back : Less ≡ ordering_reverse Less = sym itself ∙ nat_list_cmp_total.antisymm a a ∙ ap ordering_reverse itself in
     false≢true (sym (ap is_lt back))
@@ -76,14 +76,14 @@ id_at files k d fits =
     get_or-map id_of_name (listed_names files) k d d within ∙ sym (ap id_of (get_or-map base (listed_names files) k d d within))
 
 -- no listed file has the id of the next one
-other_id : {Z S : Type 0} (seen : HashSet (Vec ℕ Z) S) (files : List ListedFile) (key : Option (Vec ℕ Z)) (name : List ℕ)
+next_id_new : {Z S : Type 0} (seen : HashSet (Vec ℕ Z) S) (files : List ListedFile) (key : Option (Vec ℕ Z)) (name : List ℕ)
     → AreListed seen files → MayBeListed seen files key name → (k : ℕ) (d : List ℕ) → k < length (map id_of_name (listed_names files))
     → get_or (map id_of_name (listed_names files)) k d ≢ id_of name
-other_id seen files None name listed next k d within same =
+next_id_new seen files None name listed next k d within same =
     let fits : k < length files = subst (λ n. k < n) (length-map (listed_names files) id_of_name ∙ names_long files) within in
     let before = behind_all files name listed.messages.ascending next.behind k d (rw (bases_long files) fits) in
-    not_before _ name before (same_base _ name (sym (id_at files k d fits) ∙ same) next.is_key)
-other_id seen files (Some key) name listed next k d within same =
+    before_differs _ name before (same_base _ name (sym (id_at files k d fits) ∙ same) next.is_key)
+next_id_new seen files (Some key) name listed next k d within same =
     let is : get_or (map id_of_name (listed_names files)) k d ≡ key.items = same ∙ sym next.is_key.0 in
     let had = listed.keys key (rw (← is) (Contains-get_or (map id_of_name (listed_names files)) k d within))
     (ap length next.is_key.0 ∙ next.is_key.1) in
@@ -104,11 +104,11 @@ entry_more entries files i entry file fits is same ids =
     rw (map_push uid_of entries entry, more, names_more (take i files) file id_of_name, ids, same) refl
 
 -- and its size
-pub size_more : (entries : List ListedMessage) (files : List ListedFile) (i : ℕ) (entry : ListedMessage)
+pub entry_size_more : (entries : List ListedMessage) (files : List ListedFile) (i : ℕ) (entry : ListedMessage)
     (file : ListedFile) → i < length files → file ≡ get_or files i file → entry.size ≡ file.size
     → map size_of_entry entries ≡ map size_of_file (take i files)
     → map size_of_entry (entries ++ entry ∷ []) ≡ map size_of_file (take (i + 1) files)
-size_more entries files i entry file fits is same sizes =
+entry_size_more entries files i entry file fits is same sizes =
     let more : take (i + 1) files ≡ take i files ++ file ∷ [] = take_more files i file fits
     ∙ ap (λ (f : ListedFile). take i files ++ f ∷ []) (sym is) in
     rw (map_push size_of_entry entries entry, more, map_push size_of_file (take i files) file, sizes, same) refl
@@ -125,7 +125,7 @@ listed_more old new key files file seen next few small listed = record {
         (behind_all files (base (listed_name file)) listed.messages.ascending next.behind));
     distinct = rw (names_more files file id_of_name)
         (all_pairs_push (λ a b. a ≢ b) (map id_of_name (listed_names files)) (id_of_name (listed_name file))
-        listed.messages.distinct (other_id old files key (base (listed_name file)) listed next));
+        listed.messages.distinct (next_id_new old files key (base (listed_name file)) listed next));
     count = let long = length_push files file in omega (arith, long, few);
     sizes = All-push (λ (f : ListedFile). f.size ≤ max_size) files file listed.messages.sizes small;
   };
