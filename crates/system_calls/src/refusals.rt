@@ -1,5 +1,8 @@
 //! What is refused to a device or a connection.
-ghost use Rattle.std.specs.Prelude.{◌≡◌, Err, IfErr, IfOk, IfSome, IsErrAnd, Ok, string_bytes};
+ghost use Rattle.std.specs.{
+  IoError.error_kind,
+  Prelude.{◌≡◌, Err, IfErr, IfOk, IfSome, IsErrAnd, Ok, string_bytes},
+};
 
 use crate::refusal::{Denial, Refusal, is_want_of_memory, tell_refusal};
 use std::alloc::Global;
@@ -52,7 +55,9 @@ impl CallTrace {
 
 impl Refusals {
     /// Nothing was refused yet.
-    pub fn new(alloc: Global, trace: Option<Stderr>) -> Refusals {
+    pub fn new(alloc: Global, trace: Option<Stderr>) -> Refusals
+        ensures { result.trace.lines ≡ trace }
+    {
         Refusals {
             trace: CallTrace {
                 alloc,
@@ -63,7 +68,9 @@ impl Refusals {
     }
 
     /// What gets the lines of the trace, if there is one.
-    pub fn trace(&self) -> Option<Stderr> {
+    pub fn trace(&self) -> Option<Stderr>
+        ensures { result ≡ self.now.trace.lines }
+    {
         self.trace.lines
     }
 
@@ -102,7 +109,9 @@ impl Refusals {
     }
 
     /// An error for something that the system would grant, with the reason in words. It is kept.
-    pub fn refuse(&self, path: &str, words: &str) -> io::Error {
+    pub fn refuse(&self, path: &str, words: &str) -> io::Error
+        ensures { error_kind result ≡ ErrorKind.Other }
+    {
         let denial = Denial::because(self.trace.alloc, path, words);
         let error = denial.error();
         self.last.set(denial.into_refusal());
