@@ -1,10 +1,13 @@
 //! A Maildir in folders of a file system.
 
-ghost use Rattle.std.specs.Prelude.{◌≡◌, ◌<◌, ◌+◌, [], IfSome, codes, map, option_map, string_bytes};
+ghost use Rattle.std.specs.{
+  Prelude.{◌≡◌, ◌<◌, ◌+◌, [], IfSome, codes, map, option_map, string_bytes},
+  List.list_any,
+};
 ghost use Rattle.mail_terms.specs.FailureCount.{greatest_count};
 ghost use Rattle.folder_store.specs.{
   HostPaths.AreInMaildir,
-  MailFolders.{draft_begun, maildir_in, unknown_maildir},
+  MailFolders.{draft_begun, is_file_name, ends_name, maildir_in, unknown_maildir},
   NewDevices.{LeftMaildirsStay, LossesMayLeave, NewMaildirsKeepMail},
 };
 
@@ -111,10 +114,27 @@ impl<'a, R: Files + Clock + AllocGlobal + Clone + Drop> HostMaildir<'a, R> {
     }
 }
 
+/// Whether an octet is in no file's name.
+fn ends_name(octet: u8) -> bool
+    ensures { result ≡ ends_name octet }
+{
+    octet == b'/' || octet == 0
+}
+
+/// Whether octets have one that is in no file's name.
+fn has_end(octets: &[u8]) -> bool
+    ensures { result ≡ list_any ends_name octets.now }
+{
+    octets.iter().any(|octet| ends_name(*octet))
+}
+
 /// Whether a name stands for a file of the folder itself that readers of a Maildir look at: it
 /// isn't empty, doesn't begin with a full stop and holds no `/` and no NUL.
-fn is_file_name(name: &str) -> bool {
-    !name.is_empty() && !name.starts_with('.') && !name.bytes().any(|b| b == b'/' || b == 0)
+fn is_file_name(name: &str) -> bool
+    ensures { result ≡ is_file_name name.now }
+{
+    let octets = name.as_bytes();
+    !octets.is_empty() && !octets.starts_with(b".") && !has_end(octets)
 }
 
 impl<N: NewFile + Drop, F: MailFolders<File = N> + Drop> MaildirDisk for FolderMaildir<F, N> {
