@@ -323,7 +323,7 @@ pub fn link_over<'a, E>(
     peer: Peer,
     errors: &Errors<'a, E>,
 ) -> Link<'a>
-    ensures { IsTraced errors.now.reasons.now.link.trace
+    ensures { IsTraced errors.now.reasons.now.link.trace.lines
         (if errors.now.says_why then Some errors.now.reasons.now.talk else None) (Some peer.password.items) result }
 {
     let reasons = errors.reasons;
