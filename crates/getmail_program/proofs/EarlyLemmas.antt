@@ -11,7 +11,7 @@ use Rattle.getmail_setup.{specs.{declared.output.Output.Output, Output.{Puts, Pu
 use Rattle.rc_file.specs.declared.settings.Settings.{Settings}
 use Rattle.getmail_program.specs.{
   declared.teller.Teller.Teller,
-  Teller.{StartsTelling, EarlyLine, HasSameLinks, Hears, StaysClosed, TellsEarly, Wrote, WroteMore, WroteText, early_text},
+  Teller.{StartsTelling, EarlyLine, HasSameLinks, HearsPlans, StaysClosed, TellsEarly, Wrote, WroteMore, WroteText, early_text},
 }
 
 -- a first line, and then lines
@@ -39,7 +39,7 @@ early_or_whole contents settings out a b written text out' begun same more is (i
 
 -- what a teller has told that was told of one plan at most
 pub heard_of : {O : Type 0} (contents : O → Option (List ℕ)) (Is : List Step → Type 0) (a b : Teller O)
-    → HearsOne (Hears contents) Is a b
+    → HearsOne (HearsPlans contents) Is a b
     → HasSameLinks a b × WroteMore contents a b
     × ((b.notes.now.plan.items ≡ a.notes.now.plan.items) ⊎ Is b.notes.now.plan.items)
 heard_of contents Is a b (inl none) = (none.links, none.wrote, inl none.plan)

@@ -62,7 +62,7 @@ pub record WroteMore {O : Type 0} (contents : O → Option (List ℕ)) (old new 
   pub closed : StaysClosed contents old new
 
 -- it was told of these plans and of lines
-pub record Hears {O : Type 0} (contents : O → Option (List ℕ)) (old : Teller O) (plans : List (List Step))
+pub record HearsPlans {O : Type 0} (contents : O → Option (List ℕ)) (old : Teller O) (plans : List (List Step))
     (new : Teller O) : Type 0 where
   pub links : HasSameLinks old new
   pub wrote : WroteMore contents old new
@@ -128,7 +128,7 @@ wrote_both contents a b c same p q = record {
       (second.0, wrote_then contents [] [] a b c first.1 second.1);
 }
 
-pub heard_nothing : {O : Type 0} (contents : O → Option (List ℕ)) (a : Teller O) → Hears contents a [] a
+pub heard_nothing : {O : Type 0} (contents : O → Option (List ℕ)) (a : Teller O) → HearsPlans contents a [] a
 heard_nothing contents a = record {
   links = record { out = refl; notes = refl; verbose = refl };
   wrote = wrote_nothing contents a;
@@ -136,7 +136,7 @@ heard_nothing contents a = record {
 }
 
 pub heard_both : {O : Type 0} (contents : O → Option (List ℕ)) (a b c : Teller O) (ps qs : List (List Step))
-    → Hears contents a ps b → Hears contents b qs c → Hears contents a (ps ++ qs) c
+    → HearsPlans contents a ps b → HearsPlans contents b qs c → HearsPlans contents a (ps ++ qs) c
 heard_both contents a b c ps qs p q = record {
   links = record {
     out = q.links.out ∙ p.links.out;

@@ -4,7 +4,7 @@ ghost use Rattle.std.specs.{
   String.string_bytes,
 };
 ghost use Rattle.fetch_session.specs.Report.{is_deletion};
-ghost use Rattle.getmail_program.specs.Teller.{HasLast, HasSameLinks, Hears, StartsTelling, StaysClosed, WroteText};
+ghost use Rattle.getmail_program.specs.Teller.{HasLast, HasSameLinks, HearsPlans, StartsTelling, StaysClosed, WroteText};
 ghost use Rattle.getmail_program.specs.Teller.{early_text, heard_both, heard_nothing};
 
 use fetch_rules::{Settings, Step};
@@ -119,7 +119,7 @@ impl<'a, O: Write> Teller<'a, O> {
 }
 
 impl<'a, O: Write> Listener for Teller<'a, O> {
-    ghost hears = { Hears O.contents };
+    ghost hears = { HearsPlans O.contents };
 
     fn asks_why(&self) -> bool
         ensures { result ≡ (self.now.explains && not (self.now.verbose == 1)) }

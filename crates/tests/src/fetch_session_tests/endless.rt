@@ -14,8 +14,8 @@ fn run(account: &mut Fred, wire: &mut EndlessWire) -> Outcome {
     session(account, wire, 0).outcome
 }
 
-/// How often the pattern stands in what a link repeats, of which one read gives at most the rest: with a few octets at a
-/// time a text of the greatest length takes a minute on a busy machine.
+/// How often the pattern stands in what a link repeats, of which one read gives at most the rest: with a few octets at
+/// a time a text of the greatest length takes a minute on a busy machine.
 const TIMES: usize = 1_000;
 
 /// A session over a link that gives `front` and then `pattern` for ever is cut for this fault.
