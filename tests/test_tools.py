@@ -278,11 +278,16 @@ def test_traits():
     assert assumed and assumed <= set(printed), assumed - set(printed)
 
 
+def without_kit(text):
+    """A text without the version of the kit: another one with the same logic proves the sources too."""
+    return re.sub(r"rattle-kit-\w+", "rattle-kit", text)
+
+
 def old_texts():
-    """A line for each text in docs/ that isn't what its tool prints."""
+    """A line for each text in docs/ that isn't what its tool prints, but for the version of the kit."""
     for name, tool in (("docs/STATEMENT.txt", statement), ("docs/AXIOMS.txt", axioms), ("NOTICES", notices)):
         file = TOP / name
-        if not file.is_file() or file.read_text() != tool.text_of():
+        if not file.is_file() or without_kit(file.read_text()) != without_kit(tool.text_of()):
             yield f"{name} is old: `make {file.stem.lower()} > {name}` makes it anew"
 
 
