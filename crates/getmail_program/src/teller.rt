@@ -4,7 +4,8 @@ ghost use Rattle.std.specs.{
   String.string_bytes,
 };
 ghost use Rattle.fetch_session.specs.Report.{is_deletion};
-ghost use Rattle.getmail_program.specs.Teller.{HasLast, HasSameLinks, HearsPlans, StartsTelling, StaysClosed, WroteText};
+ghost use Rattle.getmail_program.specs.Teller.{HasLast, HasSameLinks, HearsPlans, StartsTelling, StaysClosed};
+ghost use Rattle.getmail_program.specs.Teller.{WroteText};
 ghost use Rattle.getmail_program.specs.Teller.{early_text, heard_both, heard_nothing};
 
 use fetch_rules::{Settings, Step};
