@@ -219,10 +219,10 @@ pub order : {settings : Settings} {account : List ℕ} {before : AccountMail} {e
     (s : StoresTexts settings account before effect after report commands part) → s.recorded ≤ s.stored
 order s = grind (arith, s.kept, s.marks)
 
-pub fetched : {settings : Settings} {account : List ℕ} {before : AccountMail} {effect : Effect} {after : AccountMail}
+pub fetched_within : {settings : Settings} {account : List ℕ} {before : AccountMail} {effect : Effect} {after : AccountMail}
     {report : Report} {commands : List Command} {part : List ℕ}
     (s : StoresTexts settings account before effect after report commands part) → s.stored ≤ length effect.texts
-fetched s = grind (arith, s.kept, s.number)
+fetched_within s = grind (arith, s.kept, s.number)
 
 pub mbox_fetched : {settings : Settings} {before : MboxMail} {effect : Effect} {after : MboxMail} {report : Report}
     (s : MboxStores settings before effect after report) → s.stored ≤ length effect.texts

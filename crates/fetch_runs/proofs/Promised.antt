@@ -24,7 +24,7 @@ use Rattle.fetch_runs.{
   specs.Promises.{Mail, IsOf, IsMaildrop, State, is_safe, IsSafe, state_with, DeletesOneOf, ShowsNext, IsFront, Promises, Invariant, Call},
   specs.Promises.IsBetween,
   proofs.Core.{added, added_begins, prefix_after, Fetch, all_wanted, distinct_wanted, texts_are, taken_is, wanted_ids, none_recorded},
-  proofs.Core.{fetches_wanted, length_is, IsLegal, wants, stored_files, message_file, has_listed, fetched, order},
+  proofs.Core.{fetches_wanted, length_is, IsLegal, wants, stored_files, message_file, has_listed, fetched_within, order},
   proofs.Lists.{ids_both, ids_filtered, any_filter, same_tests, is_some, Distinct, distinct_is, each_text, all_map, all_filter, all_take},
   proofs.Lists.{all_append, all_at, all_both, all_ids_at, all_passing, members, no_texts, has_texts, texts_filtered, taken_more, mapped_at},
   proofs.Lists.{all_mapped, delivered_all, delivered_marked, delivered_merged, marks_stay},
@@ -187,7 +187,7 @@ module _ {W S F : Type 0} (laws : Below) {mail : Mail} (account_is : IsAccountTe
   texts_got = one_text _ _ (distinct_wanted fetch s.stored) (all_got _ is.each)
 
   files_are : without_flags (files now) ≡ without_flags (files state.account) ++ map (message_file mail.account) came
-  files_are = s.came ∙ rw ((texts_are fetch (fetched s)).0, stored_files mail.account state.account.maildir, taken_is fetch s.stored)
+  files_are = s.came ∙ rw ((texts_are fetch (fetched_within s)).0, stored_files mail.account state.account.maildir, taken_is fetch s.stored)
 
   copies_are : (id : List ℕ) → is_legal_id id ≡ true → copies (files now) (stem_of mail.account id)
       ≡ copies (files state.account) (stem_of mail.account id) ++ cond (not (held id)) (texts_of got id) []

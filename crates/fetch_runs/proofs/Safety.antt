@@ -20,7 +20,7 @@ use Rattle.fetch_runs.{
   specs.Sessions.{IsBroken, MboxStores, MboxLeaves, AsksForNone, MboxSessionOverLink},
   specs.Steps.{IsAmong, WasFetched, DeletesAllowed, StandsAfter, IsIn, AddsTexts, AppendsMessages, BringsMessages, IsSafeSession},
   specs.Steps.MboxIsSafe,
-  proofs.{Core.{IsNumbered as IsPlaced, are_numbered, fetched, mbox_fetched, order}, Turns.text_found},
+  proofs.{Core.{IsNumbered as IsPlaced, are_numbered, fetched_within, mbox_fetched, order}, Turns.text_found},
   proofs.Listed.{honest_is_granted, listing_is_maildrop, texts_are_messages},
   proofs.Lists.{all_map, all_both, all_filter, all_passing, bytes_same, bytes_self, taken_more, all_ids_at, delivered_marked, all_back},
   proofs.Lists.{delivered_merged, delivered_unheld, all_take, all_mapped},
@@ -171,7 +171,7 @@ module _ (settings : Settings) (account : List ℕ) (before : AccountMail) (effe
       | inr stored ↦ ⊎_map inr (λ (free : is_held account before.maildir id ≡ false).
           let t = found_at effect.listing s.stored qs effect.texts id
           (wanted_first settings (is_odd account before.maildir) (merged_rows account before effect) effect.listing)
-          (fetched s) (taken_more (λ (q : ℕ × Item). q.1.uid) qs id (order s) stored) in (
+          (fetched_within s) (taken_more (λ (q : ℕ × Item). q.1.uid) qs id (order s) stored) in (
             t,
             rw t.id_is at (among_made (is_unheld account before.maildir) (file_for account) _ t.taken (rw (t.id_is, free))),
           )) (cases_Bool (is_held account before.maildir id))

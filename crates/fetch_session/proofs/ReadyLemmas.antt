@@ -240,9 +240,9 @@ module _ {D F : Type 0} (disk : DiskGhosts D) (files : FileGhosts F) where
 -- ---- what was found
 
 -- what follows from what the store told, of what readers have left of it
-pub asked : {A B : Type 0} {Part P Q : Maildir → Type 0} → A × ((left : Maildir) × Part left × P left) → B
+pub told_of : {A B : Type 0} {Part P Q : Maildir → Type 0} → A × ((left : Maildir) × Part left × P left) → B
     → ((left : Maildir) → P left → Q left) → A × B × ((left : Maildir) × Part left × Q left)
-asked told sound both = (told.0, sound, (told.1.0, told.1.1, both told.1.0 told.1.2))
+told_of told sound both = (told.0, sound, (told.1.0, told.1.1, both told.1.0 told.1.2))
 
 -- the same of a part of a session, which leads its link from another place
 pub followed : {A A' B C L L' : Type 0} {Part P Q : Maildir → Type 0} → A × B × C × L × ((left : Maildir) × Part left × P left)

@@ -78,8 +78,8 @@ read_steady content loaded is fresh =
     let closed : loaded.intent ≡ None = no_intent loaded.intent (or_parts (has_intent loaded.intent) is.outgrown torn.1).0 in
     (rw (not_older is.version old.0, closed, torn.0) at is.means, closed)
 
-pub held_is : (loaded : Loaded) → loaded.intent ≡ None → none_open loaded.rows ≡ record_state_in loaded
-held_is loaded closed = cc
+pub closed_state : (loaded : Loaded) → loaded.intent ≡ None → none_open loaded.rows ≡ record_state_in loaded
+closed_state loaded closed = cc
 
 -- an intent that is ended with no entry leaves the rows
 pub not_whole : (rows : List Row) (intent : Option Intent) → closed_rows false rows intent ≡ rows

@@ -310,11 +310,11 @@ same_mbox _ _ (InMaildir _) = refl
 same_mbox _ _ (InMbox _) = refl
 
 -- nothing came yet
-no_texts : {D F : Type 0} (disk : DiskGhosts D) (file : FileGhosts F) (old new : Store D F)
+none_appended : {D F : Type 0} (disk : DiskGhosts D) (file : FileGhosts F) (old new : Store D F)
     → ((was : List ℕ) → (mbox_of file old).content ≡ Some was → LeavesAll (may_leave_in file new) was)
     → (target : Target) → DurableTexts file target [] (stores_of disk file old) new
-no_texts _ _ _ _ _ (AsFiles _) = tt
-no_texts disk file old new whole AsEntries = λ was is. rw (append-nil was) (whole was (same_mbox disk file old ∙ is))
+none_appended _ _ _ _ _ (AsFiles _) = tt
+none_appended disk file old new whole AsEntries = λ was is. rw (append-nil was) (whole was (same_mbox disk file old ∙ is))
 
 -- a safe mboxrd file
 only_in : {D F : Type 0} (file : FileGhosts F) (store : Store D F) → IsSafeStore file store → (bytes : List ℕ)
@@ -377,7 +377,7 @@ pub none_durable : {D F H Z : Type 0} (disk : DiskGhosts D) (file : FileGhosts F
     → LeavesFile file new.ledger.file (AreLeft old.ledger.seen.rows (marked_all old.ledger.seen.rows next))
     → DurableDones file target [] next (scene_at disk file place old) new.store new.ledger.file
 none_durable disk file target place old new next safe keeps steady left = record {
-  texts = no_texts disk file old.store new.store (λ was is. keeps.0 was is (whole_in file old.store safe.1 was is)) target;
+  texts = none_appended disk file old.store new.store (λ was is. keeps.0 was is (whole_in file old.store safe.1 was is)) target;
   rows = keeps.1 (rows_last file old.ledger.file old.ledger.seen.rows safe.0 steady);
   left = left;
 }
@@ -427,8 +427,8 @@ files_session disk file (InMbox device) (InMaildir device') digits Did A B C kin
 files_session disk file store (InMbox device') digits Did A B C kind met never = absurd never
 
 -- no file is taken from an mboxrd file
-none_left : (left : Maildir) → WereTaken no_maildir left → left ≡ no_maildir
-none_left left taken =
+nothing_left : (left : Maildir) → WereTaken no_maildir left → left ≡ no_maildir
+nothing_left left taken =
     let none = is_none taken.gone left.files taken.files in
     taken.is ∙ rw (none.0, none.1, taken.odd refl refl, taken.told refl) refl
   where
@@ -447,7 +447,7 @@ pub entries_session : {D F : Type 0} (disk : DiskGhosts D) (file : FileGhosts F)
 entries_session disk file (InMbox device) (InMbox device') digits Did A B C kind met sound =
     let m = met sound in
     let none = subst (λ (maildir : Maildir). Did AsEntries (with_maildir (in_mbox (file.stored device)) maildir)
-    (in_mbox (file.stored device'))) (none_left m.4.0 m.4.1) m.4.2 in
+    (in_mbox (file.stored device'))) (nothing_left m.4.0 m.4.1) m.4.2 in
     (m.0, m.1, m.2, m.3, none)
 entries_session disk file (InMaildir device) (InMbox device') digits Did A B C kind met sound = absurd cc
 entries_session disk file store (InMaildir device') digits Did A B C kind met never = absurd never
@@ -592,9 +592,9 @@ judged_bad _ _ _ _ _ never = absurd never
 
 -- ---- nothing changes
 
-held_same : (target : Target) (store : Stores) → HoldsTheSame target store store
-held_same (AsFiles _) _ = refl
-held_same AsEntries _ = refl
+holds_the_same : (target : Target) (store : Stores) → HoldsTheSame target store store
+holds_the_same (AsFiles _) _ = refl
+holds_the_same AsEntries _ = refl
 
 refused_same : (fault : Fault) (old new : Maildir) → FindsRefused old fault new → counted_as old.failures new ≡ old
 refused_same (StoreRefused why.Missing) old new is = ap (counted_as old.failures) is.1
@@ -603,20 +603,20 @@ refused_same NoMemory old new is = ap (counted_as old.failures) is
 refused_same _ old new never = absurd never
 
 -- what was found, as a session finds it that settles the store
-found_in : (target : Target) (store store' : Stores) (items : List Item) (was : RecordState) (found : Found)
+looked_found : (target : Target) (store store' : Stores) (items : List Item) (was : RecordState) (found : Found)
     → LooksIn target was.intent store items (Ok found) store'
     → (closed_rows found.stored was.rows was.intent ≡ closed_rows_in target store was items)
     × (found.held.items ≡ held_flags target store items)
     × ((left : Stores) × SettlesStore target was items store left) × HoldsTheSame target store store'
     × (found.odd.items ≡ map (λ (item : Item). odd_in target store item.uid) items)
-found_in (AsFiles account) store store' items was found is = (
+looked_found (AsFiles account) store store' items was found is = (
   rw is.1 (not_whole was.rows was.intent),
   is.0,
   (store, refl),
   ap (λ (s : Stores). counted_as store.maildir.failures s.maildir) is.2,
   is.3,
 )
-found_in AsEntries store store' items was found looks =
+looked_found AsEntries store store' items was found looks =
     let asks = looks.asks in
     (rw (asks.2, asks.1), asks.5, (record store { mbox = looks.left }, (asks.0, asks.1, asks.3, asks.4)), looks.same, asks.6)
 
@@ -628,7 +628,7 @@ pub work_preview : (settings : Settings) (target : Target) (items : List Item) (
     now) items found.held.items now)
     → PreviewsMerged settings target items now (keeping store file) told × ChangesNothing target (keeping store file) (keeping store' read)
 work_preview settings target items now store file _ loaded store' found _ stood same looks is =
-    let there = found_in target store store' items (record_state_in loaded) found looks in (
+    let there = looked_found target store store' items (record_state_in loaded) found looks in (
       record {
         was = record_state_in loaded;
         stood = read_keeps _ _ stood;
@@ -646,7 +646,7 @@ pub not_read : (settings : Settings) (target : Target) (items : List Item) (now 
     × ChangesNothing target (keeping store file) (keeping store read)
 not_read settings target items now store file read loaded fault reads =
     let is = unread target items store file read loaded fault reads in
-    (record { left = store; cause = is.0; maildir = refl; count = refl }, (held_same target store, is.1))
+    (record { left = store; cause = is.0; maildir = refl; count = refl }, (holds_the_same target store, is.1))
 
 -- the store refused to tell
 pub not_looked : (settings : Settings) (target : Target) (items : List Item) (now : ℕ) (store : Stores)

@@ -206,21 +206,21 @@ same_content is = ap (λ (s : Stored). s.content) is
 -- ---- settling
 
 -- an intent was ended: there was no file, or it is settled
-settled_is : (intent : Option Intent) (items : List Item) (old mid : Stored) (stored : Bool)
+settles_either : (intent : Option Intent) (items : List Item) (old mid : Stored) (stored : Bool)
     → SettlesIntent intent items old (Ok stored) mid → ((old.content ≡ None) × (mid ≡ old)) ⊎ ((was : List ℕ) × (old.content ≡ Some was)
     × (stored ≡ is_stored intent items was) × (mid ≡ holding old (closed_file intent items was)))
-settled_is None _ old _ _ (whole, same) =
+settles_either None _ old _ _ (whole, same) =
     elim (either old.content) [
       | inl none ↦ inl (none, same)
       | inr (was, some) ↦ inr (was, some, whole, same ∙ held_same _ _ some)
     ]
-settled_is (Some _) _ _ _ _ (was, some, whole, now) = inr (was, some, whole, now)
+settles_either (Some _) _ _ _ _ (was, some, whole, now) = inr (was, some, whole, now)
 
 pub asks_ok : (intent : Option Intent) (old mid new : Stored) (stored : Bool) (items : List Item) (found : Found)
     → SettlesIntent intent items old (Ok stored) mid → ChecksMbox {T = Unit {0}} mid (Ok tt) new → found.stored ≡ stored
     → found.held.items ≡ none_held items → found.odd.items ≡ none_held items → AsksMbox intent old items (Ok found) new
 asks_ok intent old mid new stored items found settles ((bytes, goes_on), same) stored_is flags odd =
-    elim (settled_is intent items old mid stored settles) [
+    elim (settles_either intent items old mid stored settles) [
       | inl (none, is) ↦ none_some mid.content bytes (same_content is ∙ none) goes_on.0
       | inr (was, some, whole, now) ↦ (
           let closed : closed_file intent items was ≡ bytes = cc (rw now at goes_on.0) in
@@ -231,7 +231,7 @@ asks_ok intent old mid new stored items found settles ((bytes, goes_on), same) s
 at_most : (intent : Option Intent) (items : List Item) (old mid new : Stored) (stored : Bool)
     → SettlesIntent intent items old (Ok stored) mid → new.content ≡ mid.content → IsSettledAtMost intent items old new
 at_most intent items old mid new stored settles same =
-    elim (settled_is intent items old mid stored settles) [
+    elim (settles_either intent items old mid stored settles) [
       | inl (none, is) ↦ inl (same ∙ same_content is)
       | inr (was, some, whole, now) ↦ inr (was, some, same ∙ same_content now)
     ]
@@ -246,7 +246,7 @@ pub asks_refused : (intent : Option Intent) (old mid new : Stored) (stored : Boo
     (why : StoreFault) (fault : Fault) → SettlesIntent intent items old (Ok stored) mid → RefusesLook mid why new → IsStoreFault why fault
     → AsksMbox intent old items (Err fault) new
 asks_refused intent old mid new stored items refused.Missing fault settles (none, same) is =
-    rw is (elim (settled_is intent items old mid stored settles) [
+    rw is (elim (settles_either intent items old mid stored settles) [
       | inl (missing, is) ↦ (missing, same ∙ is)
       | inr (was, some, whole, now) ↦ none_some mid.content (closed_file intent items was) none (same_content now)
     ])
@@ -256,7 +256,7 @@ asks_refused intent old mid new stored items refused.Refused fault settles same 
       at_most intent items old mid new stored settles (same_content same),
     )
 asks_refused intent old mid new stored items refused.NotMbox fault settles ((bytes, is_mid, other), same) is =
-    rw is (elim (settled_is intent items old mid stored settles) [
+    rw is (elim (settles_either intent items old mid stored settles) [
       | inl (none, is) ↦ none_some mid.content bytes (same_content is ∙ none) is_mid
       | inr (was, some, whole, now) ↦ (
           let closed : closed_file intent items was ≡ bytes = cc (rw now at is_mid) in

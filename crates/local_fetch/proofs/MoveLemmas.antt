@@ -52,11 +52,11 @@ stays_in (x ∷ before) vanished after m (inr (more, is, without)) (suc place) a
     ⊎_elim (λ there. inl there) (λ gone. inr (rw is (or_right _ _ gone))) (stays_in before more after m without place at)
 
 -- what holds of all holds of each
-at_place : (P : Message → Type 0) (ms : List Message) (m : Message) (place : ℕ) → AllByRecursion P ms
+holds_in_place : (P : Message → Type 0) (ms : List Message) (m : Message) (place : ℕ) → AllByRecursion P ms
     → slice_get ms place ≡ Some m → P m
-at_place P [] m place _ never = absurd cc
-at_place P (x ∷ ms) m zero all at = subst P (same_Some x m at) all.0
-at_place P (x ∷ ms) m (suc place) all at = at_place P ms m place all.1 at
+holds_in_place P [] m place _ never = absurd cc
+holds_in_place P (x ∷ ms) m zero all at = subst P (same_Some x m at) all.0
+holds_in_place P (x ∷ ms) m (suc place) all at = holds_in_place P ms m place all.1 at
 
 -- each message of a list is in it
 all_in : (ms : List Message) → AllByRecursion (IsIn ms) ms
@@ -190,7 +190,7 @@ mail_is_moved {M} {D} {F} link disk file drop history leads laws conversations l
                   (λ id. is_delivered state.account.rows id || is_held mail.account promised.left id) _ ends.max_size ends.max_count
                   (λ id. rw clear' refl) (promised.promises.wanted ends.ended).1) (λ m both. both.0)) in (
                     all_both all are.each somewhere (λ m of_it it. in_one_file mail one next kept' m of_it
-                        (⊎_elim (λ (place, at). at_place (λ x. IsSafe mail next x.uid) there m place here at)
+                        (⊎_elim (λ (place, at). holds_in_place (λ x. IsSafe mail next x.uid) there m place here at)
                         (λ (gone, _). (gone_safe mail next m kept' (list_any-append _ vanished state.gone ∙ or_right _ _ gone)).1) it)),
                     all_deleted devices fetch is ends clear,
                   ),

@@ -75,12 +75,12 @@ pub record IsAt (ms : List Message) (rows : List MessageRow) (i : ℕ) : Type 0 
   served : IsServed message
   within : IsWithin message
 
-at_place : (ms : List Message) (i : ℕ) → i < length ms → AllByRecursion IsServed ms → AllByRecursion IsWithin ms
+served_at : (ms : List Message) (i : ℕ) → i < length ms → AllByRecursion IsServed ms → AllByRecursion IsWithin ms
     → IsAt ms (map message_row ms) i
-at_place [] i less served within = absurd (omega (arith, less))
-at_place (m ∷ ms) zero less served within = record { message = m; row = refl; slot = refl; served = served.0; within = within.0 }
-at_place (m ∷ ms) (suc i) less served within =
-    let later = at_place ms i (omega (arith, less)) served.1 within.1 in
+served_at [] i less served within = absurd (omega (arith, less))
+served_at (m ∷ ms) zero less served within = record { message = m; row = refl; slot = refl; served = served.0; within = within.0 }
+served_at (m ∷ ms) (suc i) less served within =
+    let later = served_at ms i (omega (arith, less)) served.1 within.1 in
     record { message = later.message; row = later.row; slot = later.slot; served = later.served; within = later.within }
 
 -- the row of a number above 0
@@ -199,7 +199,7 @@ module _ {D : Type 0} (sound : D → Type 0) (mail : D → DropMail) (name word 
                 slots = ap (λ (m : DropMail). m.slots) changed;
                 served = served;
                 fresh = λ none. rows_are;
-                unmarked = λ i from fits. rw rows_are (at_place ms i fits served.served within);
+                unmarked = λ i from fits. rw rows_are (served_at ms i fits served.served within);
               },
             )
       ]

@@ -1,5 +1,5 @@
 use Rattle.fetch_session.{
-  proofs.{TalkLemmas.err_is, ReadyLemmas.{asked, untaken}, SessionLemmas.{not_looked, not_read, not_told, work_preview}},
+  proofs.{TalkLemmas.err_is, ReadyLemmas.{told_of, untaken}, SessionLemmas.{not_looked, not_read, not_told, work_preview}},
   specs.Target.target_of,
 }
 use Rattle.fetch_session.proofs.preview.preview_work.Goals as goal
@@ -7,7 +7,7 @@ use Rattle.fetch_session.proofs.preview.preview_work.Goals as goal
 pub returns-clause-previews : goal.returns-clause-previews
 returns-clause-previews g c = λ d f.
     let reads = c.in_ok-read.ensures.reads f in
-    asked (c.in_ok-found.ensures.looks d) reads.0 (λ left is.
+    told_of (c.in_ok-found.ensures.looks d) reads.0 (λ left is.
     work_preview c.args.terms.settings.now (target_of c.args.work.now.store c.args.terms.account.now) c.args.listing.now
     c.args.terms.now _ _ _ c.read.new.seen _ c.in_ok-found.found _ reads.1.0 reads.1.2 is c.in_ok-preview_merged.ensures)
 
@@ -38,7 +38,7 @@ returns-in_err-found-clause-previews g c = λ d f.
 pub returns-in_err-preview_merged-clause-previews : goal.returns-in_err-preview_merged-clause-previews
 returns-in_err-preview_merged-clause-previews g c = rw (err_is c.from_residual-in_err-preview_merged.ensures.1) (λ d f.
     let reads = c.in_ok-read.ensures.reads f in
-    asked (c.in_ok-found.ensures.looks d) reads.0 (λ left is.
+    told_of (c.in_ok-found.ensures.looks d) reads.0 (λ left is.
     not_told c.args.terms.settings.now (target_of c.args.work.now.store c.args.terms.account.now) c.args.listing.now
     c.args.terms.now _ _ _ c.read.new.seen.intent _ c.in_ok-found.found reads.1.2 is))
 

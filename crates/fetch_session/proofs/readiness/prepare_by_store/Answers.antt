@@ -1,7 +1,7 @@
 use Rattle.std.proofs.Common.{ap, inl, inr, length, refl, sym, ◌∙◌, Ok, Err}
 use Rattle.fetch_session.{
   proofs.{TalkLemmas.err_is, SceneLemmas.read_keeps},
-  proofs.ReadyLemmas.{all_have_rows, asked, by_ids_length, found_as_held, not_before, not_found, planned_length, ready, unready},
+  proofs.ReadyLemmas.{all_have_rows, told_of, by_ids_length, found_as_held, not_before, not_found, planned_length, ready, unready},
   specs.{Record.record_state_in, Target.target_of},
 }
 use Rattle.fetch_session.proofs.readiness.prepare_by_store.Goals as goal
@@ -46,7 +46,7 @@ returns-clause-steady g c = λ f.
 
 pub returns-in_err-found-clause-readies : goal.returns-in_err-found-clause-readies
 returns-in_err-found-clause-readies g c = rw (err_is c.from_residual.ensures.1)
-    (λ d f. asked (c.in_err-found.ensures.finds d) f (λ left finds. record {
+    (λ d f. told_of (c.in_err-found.ensures.finds d) f (λ left finds. record {
       readies = record {
         cause = not_found _ (target_of c.args.work.now.store c.args.terms.account.now) _ _ _ _ _ c.args.work.now.ledger.seen
             c.in_err-found.field-0.0 (c.requires.read.stands f) finds;
@@ -68,7 +68,7 @@ returns-in_err-found-clause-readies g c = rw (err_is c.from_residual.ensures.1)
 pub returns-in_err-take_in-clause-readies : goal.returns-in_err-take_in-clause-readies
 returns-in_err-take_in-clause-readies g c = rw (err_is c.from_residual-in_err-take_in.ensures.1) (λ d f.
     let merges = c.in_err-take_in.ensures.merges f in
-    asked (c.in_ok-found.ensures.finds d) merges.0 (λ left finds.
+    told_of (c.in_ok-found.ensures.finds d) merges.0 (λ left finds.
     unready _ _ _ _ _ c.take_in.new.file c.args.terms.account.now _ _ _ left c.args.work.now.ledger.seen
     c.in_ok-found.found (c.requires.read.stands merges.0) c.merges_ask_only_for_new_ids.ensures c.requires.is_record finds
     (Err c.in_err-take_in.field-0.0) merges.1 (λ safe. (
@@ -81,7 +81,7 @@ returns-in_err-take_in-clause-readies g c = rw (err_is c.from_residual-in_err-ta
 pub returns-in_err-steps-clause-readies : goal.returns-in_err-steps-clause-readies
 returns-in_err-steps-clause-readies g c = rw (err_is c.from_residual-in_err-steps.ensures.1) (λ d f.
     let merges = c.in_ok-take_in.ensures.merges f in
-    asked (c.in_ok-found.ensures.finds d) merges.0 (λ left finds.
+    told_of (c.in_ok-found.ensures.finds d) merges.0 (λ left finds.
     unready _ _ _ _ _ c.take_in.new.file c.args.terms.account.now _ _ _ left c.args.work.now.ledger.seen
     c.in_ok-found.found (c.requires.read.stands merges.0) c.merges_ask_only_for_new_ids.ensures c.requires.is_record finds (Ok tt) merges.1
     (λ safe. (
@@ -97,7 +97,7 @@ returns-clause-readies g c = λ d f.
     let by = c.in_ok-found.ensures.flags.1.0 in
     let only_asked = rw (sym (c.in_ok-steps.ensures by.0 (c.deref.ensures.value ∙ by.1))) at
     (c.only_asked_for_are_fetched.ensures c.args.terms.settings.now by.0 c.take_in.new.seen.rows c.args.listing.now c.args.terms.now) in
-    asked (c.in_ok-found.ensures.finds d) merges.0 (λ left finds.
+    told_of (c.in_ok-found.ensures.finds d) merges.0 (λ left finds.
     ready _ _ _ _ _ c.take_in.new.file c.args.terms.account.now _ _ _ left c.args.work.now.ledger.seen
     c.in_ok-found.found (c.requires.read.stands merges.0) c.merges_ask_only_for_new_ids.ensures c.requires.is_record finds
     _ c.held_is_delivered.ensures c.marked_is_delivered.ensures only_asked merges.1 c.in_ok-take_in.ensures.rows refl

@@ -3,7 +3,7 @@ use Rattle.fetch_record.specs.{Intents.closed_rows, RecordGrowth.Updates, Record
 use Rattle.fetch_session.{
   specs.{Durable.LeavesMerged, Record.{Merges, Steady, record_state_in}},
   proofs.{SessionLemmas.{grown_merged, written_merged}, readiness.take_in.Goals.{After-grow, Else-needs_rewrite-2}},
-  proofs.SceneLemmas.{saves_merges, writes_merges, read_keeps, read_steady, held_is, and_so},
+  proofs.SceneLemmas.{saves_merges, writes_merges, read_keeps, read_steady, closed_state, and_so},
 }
 use Rattle.mail_store.specs.Durable.{MayLeave}
 use Rattle.fetch_session.proofs.readiness.take_in.Goals as goal
@@ -40,7 +40,7 @@ returns-clause-merges g c = λ kept.
     let old = g.F.FlatFile.stored c.args.file.now in
     let new = g.F.FlatFile.stored c.grow.new.file in
     and_so (c.grow.ensures.saves kept) (λ sound saves. subst (λ (h : RecordState). Merges old h (none_open rows) c.grow.result new)
-    (held_is c.args.seen.now it.1)
+    (closed_state c.args.seen.now it.1)
     (saves_merges old new (none_open was) (none_open rows) c.grow.result it.0 (saves (none_open was) (none_open rows) (inl it.2))))
 
 pub returns-clause-durable : goal.returns-clause-durable
@@ -50,7 +50,7 @@ returns-clause-durable g c = λ kept safe.
     let rows = merged (closed_rows c.args.found.now.stored was c.args.seen.now.intent) c.args.listing.now
     c.args.found.now.held.items c.args.now in (
       subst (λ (h : RecordState). LeavesMerged (MayLeave (g.F.FlatFile.disk c.args.file.now)) h rows
-          (MayLeave (g.F.FlatFile.disk c.grow.new.file))) (held_is c.args.seen.now it.1)
+          (MayLeave (g.F.FlatFile.disk c.grow.new.file))) (closed_state c.args.seen.now it.1)
           (grown_merged g.F.FlatFile c.args.file.now c.grow.new.file (none_open was) rows c.deref-3.result.now it.2
           (c.grow.ensures.leaves kept safe (none_open was) it.0).1),
       c.grow.ensures.durable kept safe,

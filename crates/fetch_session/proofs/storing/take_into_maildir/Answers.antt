@@ -2,7 +2,7 @@ use Rattle.std.proofs.Common.{rules, List, ℕ, Ok, Err, inl, inr, arith, refl, 
 use Rattle.fetch_record.specs.Record.{RecordState, none_open, marked}
 use Rattle.fetch_session.{
   specs.{Record.Saves, Store.MayGain, Target.AsFiles, Refusal.TookTillCut, Parts.KeepsLink, Report.AddsLines},
-  proofs.{SceneLemmas.{held_is, all_sound, link_alone}, SessionLemmas.same_left},
+  proofs.{SceneLemmas.{closed_state, all_sound, link_alone}, SessionLemmas.same_left},
   proofs.TextLemmas.{named_more, stores_grows, text_broken, text_stops, text_stored, text_not_saved},
   proofs.TalkLemmas.{took_talked, takes_stopped, before_cut, err_is, did_both},
   proofs.PartLemmas.{filed, link_broke, link_idle, link_then_cut, marked_ledger, same_ledger},
@@ -138,7 +138,7 @@ returns-in_err-remember g c =
           c.in_err-remember.field-0.0 c.in_ok-stem.ensures.stem stored link
           (subst (λ (h : RecordState). Saves (g.F.FlatFile.stored c.args.ledger.now.file) h
           (none_open (marked c.args.ledger.now.seen.rows c.args.uid.now)) (Err c.in_err-remember.field-0.0)
-          (g.F.FlatFile.stored c.remember.new.file)) (sym (held_is c.args.ledger.now.seen c.requires.ready.written.closed))
+          (g.F.FlatFile.stored c.remember.new.file)) (sym (closed_state c.args.ledger.now.seen c.requires.ready.written.closed))
           saved) c.note.ensures.items);
       keeps = λ f. (c.remember.ensures.keeps f).0;
       durable = λ d f safe. (tt, inr (sized_file (string_bytes c.in_ok-stem.stem) stores.0, rw (stores.1 d).1.0 refl, (refl, refl)));
