@@ -5,7 +5,7 @@ ghost use Rattle.std.specs.{
   IoError.{error_kind, raw_os_error},
 };
 ghost use Rattle.std.specs.declared.io.ErrorKind.TheVariants.{OutOfMemory};
-ghost use Rattle.system_calls.specs.Line.{TellsRefusal};
+ghost use Rattle.system_calls.specs.Line.{IsRefusalText, TellsRefusal};
 
 use crate::line::{shown, write_line};
 use std::alloc::{AllocError, AllocFailed, Global};
@@ -28,7 +28,9 @@ pub struct Denial {
 
 impl Refusal {
     /// The path and the reason, as a trace shows them.
-    pub fn text(&self, alloc: Global) -> Result<Vec<u8>, AllocError> {
+    pub fn text(&self, alloc: Global) -> Result<Vec<u8>, AllocError>
+        ensures { IfOk result (λ text. IsRefusalText (string_bytes self.now.path) text.items) }
+    {
         let Refusal { path, error } = self;
         let words = format!(in alloc; "{error}")?;
         let reason = reason(words.as_str());
