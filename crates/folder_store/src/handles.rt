@@ -1,6 +1,6 @@
 //! The files that a folder of a file system has open.
 
-ghost use Rattle.std.specs.Prelude.{◌≡◌, IfSome, None, Some, string_bytes};
+ghost use Rattle.std.specs.Prelude.{◌≡◌, ◌↔◌, IfSome, IsTrue, None, Some, string_bytes};
 ghost use Rattle.folder_store.specs.Handles.{KeepsOrCloses};
 
 use crate::calls::FileStat;
@@ -23,7 +23,9 @@ pub struct Names<F> {
 
 impl<F> Names<F> {
     /// Whether this is the folder that the system reports.
-    pub fn is_of(&self, found: &FileStat) -> bool {
+    pub fn is_of(&self, found: &FileStat) -> bool
+        ensures { IsTrue result ↔ (self.now.device ≡ found.now.device) × (self.now.inode ≡ found.now.inode) }
+    {
         self.device == found.device && self.inode == found.inode
     }
 }

@@ -109,12 +109,16 @@ impl<'a, R: Files + Clock + AllocGlobal + Clone + Drop> CallsFolders<'a, R, Host
     }
 
     /// What bears the name of a message and can't be opened: the path of each, and why.
-    pub fn obstructions(&self) -> &[Vec<u8>] {
+    pub fn obstructions(&self) -> &[Vec<u8>]
+        ensures { result.now ≡ self.now.obstructions.items }
+    {
         &self.obstructions
     }
 
     /// Whether a delivery was refused because something that is no file has its name.
-    pub fn is_name_taken(&self) -> bool {
+    pub fn is_name_taken(&self) -> bool
+        ensures { result ≡ self.now.is_name_taken }
+    {
         self.is_name_taken
     }
 

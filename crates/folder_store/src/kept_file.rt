@@ -1,6 +1,6 @@
 //! What changes a folder's files and makes them durable, by handles that may be kept.
 
-ghost use Rattle.std.specs.Prelude.{◌≡◌, ◌≤◌, None, IfOk, IfSome, OnOk, length};
+ghost use Rattle.std.specs.Prelude.{◌≡◌, ◌-◌, ◌≤◌, None, IfOk, IfSome, OnOk, length};
 ghost use Rattle.folder_store.specs.{
   Calls.{AppendsOpened, AppendsSome, Creates, Truncates, FlushesFolder, Renames, Syncs, answered},
   FileFolder.{AppendsTo, CutsTo, FlushesFile, TellsFileSize},
@@ -181,7 +181,9 @@ fn append_counted<C: FileCalls>(
 }
 
 /// How many of these octets were taken, of which the rest wasn't.
-fn taken(bytes: &[u8], rest: &[u8]) -> u64 {
+fn taken(bytes: &[u8], rest: &[u8]) -> u64
+    ensures { result ≡ length bytes.now - length rest.now }
+{
     bytes.len().saturating_sub(rest.len()) as u64
 }
 

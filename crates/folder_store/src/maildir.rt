@@ -98,12 +98,16 @@ impl<'a, R: Files + Clock + AllocGlobal + Clone + Drop> HostMaildir<'a, R> {
 
     /// What the last call that told names found to bear the name of a message and couldn't open: the path of each, and
     /// why.
-    pub fn obstructions(&self) -> &[Vec<u8>] {
+    pub fn obstructions(&self) -> &[Vec<u8>]
+        ensures { result.now ≡ self.now.folders.obstructions.items }
+    {
         self.folders.obstructions()
     }
 
     /// Whether a delivery was refused because something that is no file has its name.
-    pub fn is_name_taken(&self) -> bool {
+    pub fn is_name_taken(&self) -> bool
+        ensures { result ≡ self.now.folders.is_name_taken }
+    {
         self.folders.is_name_taken()
     }
 

@@ -69,7 +69,9 @@ fn write_all<M: MadeHandle>(file: &mut M, bytes: &[u8]) -> Result<(), Denial>
 }
 
 /// A write took nothing.
-pub fn no_octet() -> io::Error {
+pub fn no_octet() -> io::Error
+    ensures { error_kind result ≡ ErrorKind.WriteZero }
+{
     io::Error::new(ErrorKind::WriteZero, "failed to write whole buffer")
 }
 

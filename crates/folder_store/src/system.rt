@@ -1,5 +1,6 @@
 //! What the devices of the file system share: the parts of a path, and removing what killed runs left behind.
 
+ghost use Rattle.std.specs.{Prelude.{◌≡◌, ◌≢◌, Err, IfErr, IfOk, IsErrAnd, MatchOption, Ok}, IoError.error_kind};
 ghost use Rattle.folder_store.specs.HostPaths.{ArePartsOf};
 
 use crate::process_mark::is_marked;
@@ -95,7 +96,12 @@ fn entry_in<T, R: AllocGlobal>(
     system: &System<'_, R>,
     folder: &str,
     entry: io::Result<T>,
-) -> Result<Option<T>, Denial> {
+) -> Result<Option<T>, Denial>
+    ensures read { IfOk result (λ read. MatchOption read
+        (IsErrAnd entry (λ error. error_kind error ≡ ErrorKind.InvalidFilename)) (λ value. entry ≡ Ok value)) }
+    ensures denied { IfErr result (λ denial. (entry ≡ Err denial.error)
+        × (error_kind denial.error ≢ ErrorKind.InvalidFilename)) }
+{
     match entry {
         Err(fault) if fault.kind() == ErrorKind::InvalidFilename => Ok(None),
         entry => Ok(Some(system.asked("read", folder, entry)?)),
