@@ -1,11 +1,10 @@
 -- What a file system in memory does by its folder of files.
 use Rattle.std.proofs.{
-  Common.{◌≡◌, ℕ, refl, ap, List, [], ◌∷◌, take, length, eqb, inl, inr, map, not, Bool, Option, Some, None, String, Global},
-  Common.{string_bytes},
+  Common.{◌≡◌, ℕ, refl, ap, List, [], ◌∷◌, take, length, eqb, inl, inr, map, not, Bool, Option, Some, None, string_bytes},
   lemmas.Bool.cases_Bool,
 }
 use Rattle.std.specs.{Option.is_some, List.filter, Cmp.Lexicographic.pointwise}
-use Rattle.folder_store.specs.{FileFolder.Older, Under.{after, outside, outside_entry}}
+use Rattle.folder_store.specs.{FileFolder.Older, Under.{after, outside}}
 use Rattle.test_devices.{specs.MemoryFolder.older_of, proofs.MemoryFiles.Before}
 
 -- the test of a front, as a relation of two texts

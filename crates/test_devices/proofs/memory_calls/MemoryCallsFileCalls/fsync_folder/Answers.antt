@@ -1,4 +1,4 @@
-use Rattle.std.proofs.Common.{◌≡◌, ◌∙◌, ℕ, List, ap, string_bytes}
+use Rattle.std.proofs.Common.{◌∙◌, ℕ, List, ap, string_bytes}
 use Rattle.folder_store.{
   specs.{Calls.{Tree, names_synced}, FileFolder.Directory, Under.{front_of, outside}},
   proofs.Refusing.joined_nothing,

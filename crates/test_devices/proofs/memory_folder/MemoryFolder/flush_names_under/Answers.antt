@@ -1,6 +1,4 @@
-use Rattle.std.proofs.{Common.{◌≡◌, ◌∙◌, ap, List, map, not, refl, rules, string_bytes}, lemmas.Fn.filter_same}
-use Rattle.std.specs.Option.{is_some}
-use Rattle.folder_store.specs.Under.{after, outside}
+use Rattle.std.proofs.{Common.{◌∙◌, ap, List, map, refl, rules}, lemmas.Fn.filter_same}
 use Rattle.test_devices.{
   specs.MemoryFolder.older_of,
   proofs.{MemoryFiles.Before, MemorySystem.{is_kept, outside_names}},
