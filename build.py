@@ -5,8 +5,7 @@
     ./build.py --unchanged getmail popd   # fails if bin/ has programs that were proved from other sources than these
 
 `rt ci` does both, in a copy that has these crates without their mutants: as many at once as there are processors and memory.
-It keeps what it has proved beside the kit, for the next run here and for the gate. `tests` builds and runs the tests of the
-libraries.
+Some kits keep what they have proved, for the next run here and for the gate. `tests` builds and runs the tests of the libraries.
 """
 
 import contextlib
