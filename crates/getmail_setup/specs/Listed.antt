@@ -1,7 +1,7 @@
 -- The rows of a listing, and the messages over the size limit that they name.
 use Rattle.std.specs.{
   Prelude.{◌≡◌, ◌⊎◌, ◌==◌, ◌-◌, ◌++◌, ℕ, List, [], ◌∷◌, Option, None, Some, Result, Ok, Err, codes, length, nat_lt},
-  Prelude.{option_map, take, if◌then◌else◌},
+  Prelude.{Bool, false, true, IsSomeAnd, option_map, take, if◌then◌else◌},
   Char.is_ascii_whitespace,
   List.{filter_map, find, list_any, suffix_len},
 }
@@ -84,3 +84,8 @@ large_in sizes numbers row = large_for sizes numbers (number_and_id (without_end
 abbrev pub AreLarge : Listed → List ℕ → List Large → Type 0
 AreLarge listed numbers large =
     large ≡ filter_map (large_in listed.sizes.items numbers) (lines_of_text listed.uids.items)
+
+-- the rows of messages over this limit are kept, or none are; none has come yet
+abbrev pub KeepsLarge : Bool → ℕ → Option Listed → Type 0
+KeepsLarge true limit listed = IsSomeAnd listed (IsFresh limit)
+KeepsLarge false limit listed = listed ≡ None
