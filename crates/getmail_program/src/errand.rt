@@ -1,6 +1,6 @@
 //! A run over devices that are made for it.
 ghost use Rattle.std.specs.{
-  Prelude.{◌≡◌, ◌≤◌, ℕ, List, Option, Some, option_map},
+  Prelude.{◌≡◌, ◌≤◌, ◌==◌, ◌&&◌, ℕ, List, Option, Some, is_some, not, option_map},
   String.string_bytes,
   declared.time.SystemTime.SystemTime,
 };
@@ -9,7 +9,9 @@ ghost use Rattle.fetch_session.specs.{Account.IsSameAccount, Hearing.IsPlanOf};
 ghost use Rattle.getmail_setup.specs.{
   Clock.second_of,
   Failures.cause_line,
+  Listed.KeepsLarge,
   Output.Puts,
+  Progress.{IsShownOn, screen_for},
   declared.journal.Subject.Subject,
 };
 ghost use Rattle.getmail_program.specs.{
@@ -181,7 +183,9 @@ fn shown<W: Wire, E: Write + Copy>(
     settings: &Settings,
     errors: &Errors<'_, E>,
 ) -> ShownWire<W, E>
-    ensures { result.wire ≡ wire }
+    ensures shown { IsShownOn (screen_for errors.now settings.now) wire result }
+    ensures listed { KeepsLarge (is_some errors.now.journal && not (settings.now.max_size == 0)) settings.now.max_size
+        result.listed }
 {
     let mut wire = ShownWire::new(alloc, wire, errors.screen(settings));
     if errors.journal.is_some() && settings.max_size != 0 {
