@@ -15,7 +15,7 @@ use Rattle.folder_store.specs.{
   MailFolders.{MailFile, Directories, KeepsFile, MovesFile, RestsFile, Moved, mail_at, files_at, name_at, entries_in, touches_new, is_in},
   MailFolders.{touches_cur, maildir_in, OneMoves},
   MailPower.{EntriesLeftAs, IsMailLeftAs, MailCanLosePower},
-  MailCalls.{StillLeads, SameFiles, named_by},
+  MailCalls.{Leads, SameFiles, named_by},
 }
 
 -- what holds of two lists of files that are so related one by one
@@ -73,7 +73,7 @@ files_moved a b = each_by MovesFile (λ a b. files_at b ≡ files_at a) refl
 pub each_keeps : (a b : List MailFile) → AllZip MovesFile a b → AllZip KeepsFile a b
 each_keeps a b = each_by MovesFile (AllZip KeepsFile) tt (λ s t ss ts m rest. (m.keeps, rest)) a b
 
-pub moved_leads : (a b : Directories) → Moved a b → StillLeads a b
+pub moved_leads : (a b : Directories) → Moved a b → Leads a b
 moved_leads a b m = record {
   there = m.there;
   taken = m.taken;
@@ -82,7 +82,7 @@ moved_leads a b m = record {
 }
 
 -- others moved files, and a call changed nothing
-pub moved_same : (a m b : Directories) → Moved a m → b ≡ m → StillLeads a b
+pub moved_same : (a m b : Directories) → Moved a m → b ≡ m → Leads a b
 moved_same a m b v e = rw e (moved_leads a m v)
 
 pub flush_keeps : (folder : Folder) (s : MailFile) → KeepsFile s (named_by folder s)
@@ -92,7 +92,7 @@ flush_keeps Cur s = record { title = refl; content = refl; flushed = λ h. h; na
 pub same_keeps : (s : MailFile) → KeepsFile s s
 same_keeps s = record { title = refl; content = refl; flushed = λ h. h; named = λ h. h }
 
-pub leads_same : (a : Directories) → StillLeads a a
+pub leads_same : (a : Directories) → Leads a a
 leads_same a = record { there = refl; taken = refl; odd = refl; keeps = zip_same KeepsFile same_keeps a.entries }
 
 -- ---- one after another
@@ -107,7 +107,7 @@ keeps_on s t u a b = record {
 
 -- others moved files, and then something was done to each that keeps it
 pub mapped_leads : (f : MailFile → MailFile) → ((s : MailFile) → KeepsFile s (f s)) → (a m : Directories) → Moved a m
-    → StillLeads a (record m { entries = map f m.entries })
+    → Leads a (record m { entries = map f m.entries })
 mapped_leads f keeps a m v = record {
   there = v.there;
   taken = v.taken;
