@@ -19,7 +19,7 @@ returns-clause-held g c =
     let held = subst (λ w. Held w.wire ran.new.client.wire.now.wire) c.new-client.ensures.place.0
     ((ran.ensures.counted, ran.ensures.bounded), ran.ensures.session) in
     let moved = subst (λ w. Held c.args.wire.now.wire w.wire) same held in
-    let wiped = subst (λ w. Held c.args.wire.now.wire w) (sym c.wipe.ensures) moved in
+    let wiped = subst (λ w. Held c.args.wire.now.wire w) (sym (ap (λ s. s.wire) c.wipe.ensures.same)) moved in
     (c.if-terms.false, wiped.0, wiped.1)
 
 pub returns-clause-reported : goal.returns-clause-reported
@@ -43,7 +43,7 @@ returns-clause-reported g c =
           c.asked_for-plan.result.now end.notes.now.plan.items
           (c.asked_for-plan.ensures ∙ ap (λ (kept : List Step). if c.args.terms.explains then kept else [])
           (c.deref.ensures.value ∙ ap (λ n. n.plan.items) notes))
-          (rw (c.wipe.ensures, ← same, ← c.new-client.ensures.place.0) (elim planned [
+          (rw (ap (λ s. s.wire) c.wipe.ensures.same, ← same, ← c.new-client.ensures.place.0) (elim planned [
             | inl kept ↦ inl (kept ∙ begun.plan ∙ c.new-notes.ensures.1)
             | inr own ↦ inr own
           ]));
