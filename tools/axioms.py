@@ -42,8 +42,8 @@ ASSUMED = """\
    them. It is printed without the words `sound self.new → sound self.old ×` before it. docs/STATEMENT.txt has the
    traits Wire, MaildirDisk and FlatFile with what their names mean, and 9 has the others. What can't be opened may
    come to the folders and go at any moment, so no clause says where such names (`closed_new`, `closed_cur`) come from.
-   Of HostFolders it is assumed that a listing shows exactly those that are there then (`ListsIn`): a message whose name
-   is one isn't fetched. All that is above HostFolders is proved to tell just these."""
+   Of CallsFolders it is assumed that a listing shows exactly those that are there then (`ListsIn`): a message whose name
+   is one isn't fetched. All that is above it is proved to tell just these."""
 PREMISES = """\
 2. The premises of the other devices. What their traits say is proved, for one over another device as far as that one
    does what its trait says."""
@@ -55,6 +55,7 @@ EXCUSES = {
     "Receives": "the other end has closed the link",
     "doubted": "a flush of a file was refused before, after which none makes it durable",
     "is_there": "a folder isn't there",
+    "SyncsNames": "the file system flushes no folders, which ends the premise",
     "FlushesNames": "the file system flushes no folders, which ends the premise",
     "FlushesNamesIn": "the file system flushes no folders, which ends the premise",
     "Makes": "the place where files are made isn't there",
@@ -74,11 +75,11 @@ UNCOVERED = """\
    open, is no cover."""
 
 BELOW = Part("The other traits", """\
-9. The traits of which 1 assumes clauses, beside those in docs/STATEMENT.txt: of the folders over which the real Maildir
-   and files are made, and of a server's maildrop. Each name that docs/STATEMENT.txt doesn't have is explained before it
-   is used.""",
-             traits=("folder_store:NewFile", "folder_store:FolderState", "folder_store:FileFolder",
-                     "folder_store:MailFolders", "pop3_server:Maildrop"))
+9. The traits of which 1 assumes clauses, beside those in docs/STATEMENT.txt: of single calls of the system, over which
+   the real files are made, of the folders over which the real Maildir is, and of a server's maildrop. Each name that
+   docs/STATEMENT.txt doesn't have is explained before it is used.""",
+             traits=("folder_store:MadeHandle", "folder_store:OpenHandle", "folder_store:FileCalls",
+                     "folder_store:NewFile", "folder_store:MailFolders", "pop3_server:Maildrop"))
 
 
 class Function(NamedTuple):

@@ -92,7 +92,7 @@ ROWS = {
     "traces::line_text_row": Row("line_text", ("C: RETR 1\\x1b/",)),
     "traces::refusal_text_row": Row("refusal_text", ("open mail/new: Permission denied",)),
     "traces::rename_row": Row("System::rename", ("none to other: No such file or directory",)),
-    "traces::read_row": Row("System::open, Noted::at", (".: Is a directory",)),
+    "traces::read_row": Row("System::open, OpenAt::asked", (".: Is a directory",)),
     "traces::traced_wire_row": Row("TracedWire::send", ("sent", "NOOP|"), left=(("",),), faults=(REFUSED,)),
     "stores::deliver_row": Row("deliver", ("done", *DELIVERED), left=(("none begun",),), faults=(NO_MEMORY, REFUSED)),
     "stores::move_to_cur_row": changing("MemoryMaildir::move_to_cur", DELIVERED, ("moved",), ("none begun",)),

@@ -45,11 +45,11 @@ none_more found listed seen files from is are = record {
 }
 
 -- one more file was looked at
-pub one_more : (found : FileWay → Found → Type 0) (listed : ListedFile) (seen : List PlacedFile) (files : List Namesake)
+pub looked_more : (found : FileWay → Found → Type 0) (listed : ListedFile) (seen : List PlacedFile) (files : List Namesake)
     (from : PlacedFile) (told : Option Namesake) → IsNamesake found listed from told → AreNamesakes found listed seen files
     → AreNamesakes found listed (seen ++ from ∷ []) (files ++ if_any told)
-one_more found listed seen files from None is are = rw (append-nil files) (none_more found listed seen files from is are)
-one_more found listed seen files from (Some file) is are = namesake_more found listed seen files from file is are
+looked_more found listed seen files from None is are = rw (append-nil files) (none_more found listed seen files from is are)
+looked_more found listed seen files from (Some file) is are = namesake_more found listed seen files from file is are
 
 pub none_yet : (found : FileWay → Found → Type 0) (listed : ListedFile) → AreNamesakes found listed [] []
 none_yet found listed = record {
@@ -82,11 +82,11 @@ pub number_cases : (a b : FileNumber) → (a ≡ b) ⊎ (a ≢ b)
 number_cases a b = same_device a b (cases_eq a.device b.device)
 
 -- all are removed, if those of the number are and those of others
-pub all_removed : (removed : FileWay → FileNumber → Type 0) (number : FileNumber) (files : List Namesake)
+pub each_removed : (removed : FileWay → FileNumber → Type 0) (number : FileNumber) (files : List Namesake)
     → All (λ (file : Namesake). file.number ≢ number → removed file.file file.number) files
     → All (λ (file : Namesake). file.number ≡ number → removed file.file file.number) files
     → All (λ (file : Namesake). removed file.file file.number) files
-all_removed removed number files copies names = λ k d within.
+each_removed removed number files copies names = λ k d within.
     ⊎_elim (names k d within) (copies k d within) (number_cases (get_or files k d).number number)
 
 -- what holds at a place, and of its file, is the same

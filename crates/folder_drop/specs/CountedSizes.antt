@@ -14,3 +14,7 @@ pub record WasCounted (files : List ListedFile) (found : PlacedFile) (stamp : St
   pub name : string_bytes file.name ≡ string_bytes found.name
   pub same : file.stamp ≡ stamp
   pub size : file.size ≡ counted
+
+-- some files are among others
+abbrev pub ComeFrom : (some all : List ListedFile) → Type 0
+ComeFrom some all = (file : ListedFile) → Contains some file → Contains all file

@@ -1,6 +1,6 @@
 -- Files of messages with different ids: those of a listing, and those that were listed so far.
 use Rattle.std.specs.{
-  Prelude.{◌≡◌, ◌≤◌, ◌<◌, ◌-◌, ℕ, Bool, true, false, List, Option, Some, None, Vec, All, bytes_eq, get_or},
+  Prelude.{◌≡◌, ◌≤◌, ◌<◌, ◌-◌, ◌⊎◌, ℕ, Bool, true, false, List, Option, Some, None, Vec, All, IfSome, bytes_eq, get_or},
   Prelude.{length, map},
   List.Contains,
   HashSet.{HashSet, contains},
@@ -8,7 +8,16 @@ use Rattle.std.specs.{
 use Rattle.mail_terms.specs.{Distinct.AreDistinct, MaildirName.base}
 use Rattle.pop3_server.specs.Maildrop.{ListedMessage, max_count, max_size}
 use Rattle.folder_drop.specs.{
-  declared.{folders_look.FoldersLook.FoldersLook, listed_file.ListedFile.ListedFile},
+  declared.{
+    folders_look.FoldersLook.FoldersLook,
+    listed_file.ListedFile.ListedFile,
+    mail_files.{FileNumber.FileNumber, FileWay.FileWay, Found.Found},
+    maildir_names.{PlacedFile.PlacedFile, Stamp.Stamp},
+    seen_files.SeenFiles.SeenFiles,
+  },
+  CountedSizes.WasCounted,
+  Finding.{IsLeftOut, TellsStamp},
+  Places.base_of_file,
   MaildirNames.{digest_length, IsIdKey, id_of},
   RealMaildir.{AreAscending, IsBefore, id_of_name, listed_names},
 }
@@ -43,15 +52,28 @@ abbrev pub AreSeen : {Z S : Type 0} → HashSet (Vec ℕ Z) S → List (List ℕ
 AreSeen {Z} {S} seen ids = (key : Vec ℕ Z) → Contains ids key.items → length key.items ≡ digest_length
     → contains same_key seen key ≡ true
 
--- the files are those of messages, and the set has their ids that are as long as a digest
+-- and no other id
+abbrev pub HasNoOther : {Z S : Type 0} → HashSet (Vec ℕ Z) S → List (List ℕ) → Type 0
+HasNoOther {Z} {S} seen ids = (key : Vec ℕ Z) → contains same_key seen key ≡ true → Contains ids key.items
+
+abbrev pub listed_ids : List ListedFile → List (List ℕ)
+listed_ids files = map id_of_name (listed_names files)
+
+-- the files are those of messages, and the set has their ids that are as long as a digest, and no other one
 pub record AreListed {Z S : Type 0} (seen : HashSet (Vec ℕ Z) S) (files : List ListedFile) : Type 0 where
   pub messages : AreMessages files
-  pub keys : AreSeen seen (map id_of_name (listed_names files))
+  pub keys : AreSeen seen (listed_ids files)
+  pub only : HasNoOther seen (listed_ids files)
 
 -- the base comes after that of the last of these files
 abbrev pub FollowsLast : List ListedFile → List ℕ → Type 0
 FollowsLast files name = (last : List ℕ) → 0 < length files
     → IsBefore (get_or (bases_of files) (length files - 1) last) name
+
+-- the base doesn't come after that of the last of these files
+abbrev pub IsBeforeLast : List ListedFile → List ℕ → Type 0
+IsBeforeLast files name = (0 < length files)
+    × ((last : List ℕ) → IsBefore (get_or (bases_of files) (length files - 1) last) name → ⊥)
 
 -- the set doesn't have the key, if there is one
 abbrev pub IsUnseen : {Z S : Type 0} → HashSet (Vec ℕ Z) S → Option (Vec ℕ Z) → Type 0
@@ -64,3 +86,23 @@ pub record MayBeListed {Z S : Type 0} (seen : HashSet (Vec ℕ Z) S) (files : Li
   pub behind : FollowsLast files name
   pub is_key : IsIdKey key (id_of name)
   pub unseen : IsUnseen seen key
+
+-- a regular file that was found is gone or above the limit, by its stamp and the size that was counted for it, or read
+abbrev pub IsUnfit : {File : Type 0} → (File → Option (List ℕ)) → (FileWay → Found → Type 0)
+    → (FileWay → FileNumber → File → Type 0) → (List PlacedFile → Type 0) → List ListedFile → PlacedFile → SeenFiles
+    → Type 0
+IsUnfit remaining found opened told earlier file seen = (stamp : Stamp) × (known : Option ℕ)
+    × ((then : SeenFiles) × TellsStamp found told then (base_of_file file) (Some stamp))
+    × IfSome known (WasCounted earlier file stamp)
+    × IsLeftOut remaining found opened told seen (base_of_file file) (stamp, known)
+
+-- what was found is no message: it is that, or no regular file
+abbrev pub IsPassedOver : {File : Type 0} → (File → Option (List ℕ)) → (FileWay → Found → Type 0)
+    → (FileWay → FileNumber → File → Type 0) → (List PlacedFile → Type 0) → List ListedFile → PlacedFile → Type 0
+IsPassedOver remaining found opened told earlier file = (seen : SeenFiles)
+    × (TellsStamp found told seen (base_of_file file) None ⊎ IsUnfit remaining found opened told earlier file seen)
+
+-- a message of the id of a file that was found is listed; or as many are as may be, or it is no message
+abbrev pub IsAccountedFor : (PlacedFile → Type 0) → List ListedFile → PlacedFile → Type 0
+IsAccountedFor IsPassed files file = Contains (listed_ids files) (id_of (base_of_file file))
+    ⊎ ((max_count ≤ length files) ⊎ IsPassed file)

@@ -6,7 +6,7 @@ ghost use Rattle.std.specs.{
 };
 ghost use Rattle.mail_terms.specs.MaildirName.{base as base_of};
 ghost use Rattle.pop3_server.specs.Size.{capped, size_of};
-ghost use Rattle.folder_drop.specs.{CountedSizes.WasCounted, RealMaildir.listed_name};
+ghost use Rattle.folder_drop.specs.{CountedSizes.{ComeFrom, WasCounted}, RealMaildir.listed_name};
 
 use crate::maildir_names::{Folder, PlacedFile, Stamp};
 use mail_terms::base;
@@ -103,7 +103,8 @@ impl<'a> CountedSizes<'a> {
     /// The counted size of a file that was found with this stamp, if there is one and the file is as it was
     /// then. Files that come before it are skipped.
     pub fn size_of(&mut self, found: &PlacedFile, stamp: Stamp) -> Option<u64>
-        ensures { IfSome result (λ size. WasCounted self.old.files.now found.now stamp size) }
+        ensures counted { IfSome result (λ size. WasCounted self.old.files.now found.now stamp size) }
+        ensures rest { ComeFrom self.new.files.now self.old.files.now }
     {
         while let [file, rest @ ..] = self.files {
             if file.is_same(found) {

@@ -18,7 +18,7 @@ ghost use Rattle.std.specs.Prelude.{
 ghost use Rattle.folder_drop.specs.{
   declared.folders_look.FoldersLook.FoldersLook,
   FoldersLook.IsUnchanged,
-  Listing.{AreListed, FollowsLast, MayBeListed, IsUnseen, size_of_entry, size_of_file},
+  Listing.{AreListed, FollowsLast, IsBeforeLast, IsUnseen, MayBeListed, size_of_entry, size_of_file},
   RealMaildir.{AreAscending, HaveIds, listed_name, listed_names, uid_of},
 };
 ghost use Rattle.mail_terms.specs.{Distinct.AreDistinct, MaildirName.base as base_of};
@@ -110,7 +110,8 @@ impl ListedFiles {
         capacity: usize,
         hasher: RandomState,
     ) -> Result<ListedFiles, AllocError>
-        ensures { IfOk result (λ listed. AreListed listed.long_ids listed.files.items) }
+        ensures empty { IfOk result (λ listed. listed.files.items ≡ []) }
+        ensures listed { IfOk result (λ listed. AreListed listed.long_ids listed.files.items) }
     {
         Ok(ListedFiles {
             files: Vec::with_capacity(alloc, capacity)?,
@@ -127,8 +128,9 @@ impl ListedFiles {
     }
 
     /// Whether a base comes after those of all files that are listed.
-    fn is_behind(&self, base: &str) -> bool
-        ensures { IsTrue result → FollowsLast self.now.files.items base.now }
+    pub fn is_behind(&self, base: &str) -> bool
+        ensures behind { IsTrue result → FollowsLast self.now.files.items base.now }
+        ensures before { IsFalse result → IsBeforeLast self.now.files.items base.now }
     {
         match self.files.last() {
             Some(last) => last.base() < base,
@@ -137,21 +139,13 @@ impl ListedFiles {
     }
 
     /// Whether an id isn't one of the long ones that are listed.
-    fn is_unseen(&self, long_id: &Option<Vec<u8>>) -> bool
+    pub fn is_unseen(&self, long_id: &Option<Vec<u8>>) -> bool
         ensures { IsTrue result ↔ IsUnseen self.now.long_ids long_id.now }
     {
         match long_id {
             Some(id) => !self.long_ids.contains(id),
             None => true,
         }
-    }
-
-    /// Whether a file of this base may be listed next, whose id is this one if that is as long as a digest.
-    pub fn admit(&self, base: &str, long_id: &Option<Vec<u8>>) -> bool
-        ensures behind { IsTrue result → FollowsLast self.now.files.items base.now }
-        ensures unseen { IsTrue result → IsUnseen self.now.long_ids long_id.now }
-    {
-        self.is_behind(base) && self.is_unseen(long_id)
     }
 
     /// Lists one more file.

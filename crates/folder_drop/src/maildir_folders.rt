@@ -29,7 +29,7 @@ pub struct MaildirFolders<'a, R: Files + AllocGlobal + Clone + Drop> {
     system: &'a System<'a, R>,
     path: String,
     /// Both, open since the last look.
-    open: Option<OpenFolders<'a, R>>,
+    opened: Option<OpenFolders<'a, R>>,
 }
 
 /// The two folders, open.
@@ -44,7 +44,7 @@ impl<'a, R: Files + AllocGlobal + Clone + Drop> Model for MaildirFolders<'a, R> 
 
     ghost view = { λ f. string_bytes f.path };
 
-    ghost invariant = { λ f. IfSome f.open (λ both.
+    ghost invariant = { λ f. IfSome f.opened (λ both.
         IsMaildirFolder (string_bytes f.path) New both.new_folder.folder (string_bytes both.new_folder.path)
         × IsMaildirFolder (string_bytes f.path) Cur both.cur_folder.folder (string_bytes both.cur_folder.path)) };
 }
@@ -93,7 +93,7 @@ impl<'a, R: Files + Clock + AllocGlobal + Clone + Drop> MaildirFolders<'a, R> {
         MaildirFolders {
             system,
             path,
-            open: None,
+            opened: None,
         }
     }
 
@@ -118,11 +118,11 @@ impl<'a, R: Files + Clock + AllocGlobal + Clone + Drop> MaildirFolders<'a, R> {
         ensures { IfOk result (λ found.
             IsMaildirFolder self.now folder found.now.folder (string_bytes found.now.path)) }
     {
-        match &self.open {
+        match &self.opened {
             None => Err(io::Error::from(ErrorKind::NotFound)),
-            Some(open) => match folder {
-                Folder::New => Ok(&open.new_folder),
-                Folder::Cur => Ok(&open.cur_folder),
+            Some(opened) => match folder {
+                Folder::New => Ok(&opened.new_folder),
+                Folder::Cur => Ok(&opened.cur_folder),
             },
         }
     }
@@ -143,7 +143,7 @@ impl<'a, R: Files + Clock + AllocGlobal + Clone + Drop> MaildirFolders<'a, R> {
             new: new_folder.change()?,
             cur: cur_folder.change()?,
         };
-        self.open = Some(OpenFolders {
+        self.opened = Some(OpenFolders {
             new_folder,
             cur_folder,
         });

@@ -175,32 +175,6 @@ fn place_of_other<D: MailFiles>(
     Ok(None)
 }
 
-/// Removes a file that may go with the listed one, unless it is that one.
-fn remove_copy<D: MailFiles>(files: &D, file: &Namesake, listed: &Namesake) -> io::Result<()>
-    requires { MayGo D.File.remaining (D.opened files.now) listed.now file.now }
-    ensures { OnOk result (file.now.number ≢ listed.now.number
-        → D.removed files.now file.now.file file.now.number) }
-{
-    if file.number == listed.number {
-        return Ok(());
-    }
-    files.remove(file, listed)?;
-    Ok(())
-}
-
-/// Removes a file that may go with the listed one, if it is that one.
-fn remove_own<D: MailFiles>(files: &D, file: &Namesake, listed: &Namesake) -> io::Result<()>
-    requires { MayGo D.File.remaining (D.opened files.now) listed.now file.now }
-    ensures { OnOk result (file.now.number ≡ listed.now.number
-        → D.removed files.now file.now.file file.now.number) }
-{
-    if file.number != listed.number {
-        return Ok(());
-    }
-    files.remove(file, listed)?;
-    Ok(())
-}
-
 /// Removes those of these files that are copies of the listed one.
 fn remove_copies<D: MailFiles>(files: &D, all: &[Namesake], listed: &Namesake) -> io::Result<()>
     requires { All (MayGo D.File.remaining (D.opened files.now) listed.now) all.now }
@@ -208,7 +182,9 @@ fn remove_copies<D: MailFiles>(files: &D, all: &[Namesake], listed: &Namesake) -
         → D.removed files.now file.file file.number) all.now) }
 {
     for file in all {
-        remove_copy(files, file, listed)?;
+        if file.number != listed.number {
+            files.remove(file, listed)?;
+        }
     }
     Ok(())
 }
@@ -220,7 +196,9 @@ fn remove_names<D: MailFiles>(files: &D, all: &[Namesake], listed: &Namesake) ->
         → D.removed files.now file.file file.number) all.now) }
 {
     for file in all {
-        remove_own(files, file, listed)?;
+        if file.number == listed.number {
+            files.remove(file, listed)?;
+        }
     }
     Ok(())
 }

@@ -71,7 +71,7 @@ flushed_becomes f Will will old mid new name r (b, c, at, is, e) flush = by r fl
 appended_twice : (b : Blob) (xs ys : List ℕ) → flushed (appended (flushed (appended b xs)) ys) ≡ flushed (appended b (xs ++ ys))
 appended_twice b xs ys = grind (arith, append_assoc b.content xs ys)
 
-appended_nothing : (b : Blob) → appended b [] ≡ b
+pub appended_nothing : (b : Blob) → appended b [] ≡ b
 appended_nothing b = ap (λ (zs : List ℕ). record b { content = zs }) (append-nil b.content)
 
 -- a later piece was refused, and the file has a front of it

@@ -5,6 +5,7 @@ use Rattle.std.specs.{
   Str.Pattern.{RFindsChar, SplitsAroundMatch},
 }
 use Rattle.hex.specs.Hex.{encode_lower}
+use Rattle.folder_store.specs.Under.{front_of}
 use Rattle.folder_store.specs.declared.{host_paths.HostPaths.HostPaths, process_mark.ProcessMark.ProcessMark}
 
 -- a path, and one in the folder that it leads to, if there is a name
@@ -13,7 +14,14 @@ path_of_folder base folder = if length folder == 0 then base else path_join base
 
 -- the path of a name in a folder of a path
 abbrev pub path_of_file : List ℕ → List ℕ → List ℕ → List ℕ
-path_of_file base folder name = path_join (path_of_folder base folder) name
+path_of_file base folder name = front_of (path_of_folder base folder) ++ name
+
+-- the folder of some paths, and a name's path in it
+abbrev pub folder_of : HostPaths → List ℕ
+folder_of paths = path_of_folder paths.base.now paths.folder.now
+
+abbrev pub path_named : HostPaths → List ℕ → List ℕ
+path_named paths name = front_of (folder_of paths) ++ name
 
 -- a name with the mark of a process, its id and octets of random, after it
 abbrev pub with_process_mark : ProcessMark → List ℕ → List ℕ

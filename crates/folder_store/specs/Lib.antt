@@ -1,11 +1,16 @@
+pub mod Calls
 pub mod CutOff
 pub mod ExactListing
 pub mod FileFolder
 pub mod FlushPass
+pub mod Handles
 pub mod HostFile
 pub mod HostPaths
+pub mod Kept
 pub mod MailCalls
 pub mod MailFolders
 pub mod MailPower
 pub mod NewDevices
 pub mod PowerLoss
+pub mod Under
+pub mod Watch

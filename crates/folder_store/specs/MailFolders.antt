@@ -1,8 +1,9 @@
 -- The folders `new` and `cur` of a Maildir, in which mail readers move files, and from which they take files away, at
 -- any moment.
 use Rattle.std.specs.{
-  Prelude.{◌≡◌, ◌||◌, ◌&&◌, ℕ, Bool, true, false, not, List, [], ◌∷◌, ◌++◌, map, Option, None, String, string_bytes},
-  List.{AllZip, filter},
+  Prelude.{◌≡◌, ◌==◌, ◌||◌, ◌&&◌, ℕ, Bool, true, false, not, List, [], ◌∷◌, ◌++◌, codes, length, map, Option, None},
+  Prelude.{String, string_bytes},
+  List.{AllZip, filter, list_any, starts_with},
 }
 use Rattle.mail_terms.specs.MaildirName.{base}
 use Rattle.mail_store.specs.{
@@ -10,6 +11,15 @@ use Rattle.mail_store.specs.{
   Maildir.{Draft, Maildir, File, Folders, draft, mail},
 }
 use Rattle.folder_store.specs.FileFolder.{MadeFile}
+
+-- no file's name has a slash or a NUL
+abbrev pub ends_name : ℕ → Bool
+ends_name octet = octet == 47 || octet == 0
+
+-- a name of a file of the folder itself that mail readers look at: it isn't empty and doesn't begin with a full stop
+abbrev pub is_file_name : List ℕ → Bool
+is_file_name name = not (length name == 0) && not (starts_with (λ a b. a == b) name (codes "."))
+    && not (list_any ends_name name)
 
 -- a file of one of the two folders: whether it is in `new`, its name with its marks, and its bytes; whether its
 -- bytes are durable, and whether some name of it in one of the folders is; whether it left `new`, or `cur`,

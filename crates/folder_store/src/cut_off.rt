@@ -75,7 +75,9 @@ impl<'a, F> CutOff<'a, F> {
     }
 
     /// The folder and the name.
-    pub fn place(&self) -> (&F, &str) {
+    pub fn place(&self) -> (&F, &str)
+        ensures { (result.0.now ≡ self.now.folder) × (result.1.now ≡ self.now.name.now) }
+    {
         (&self.folder, self.name)
     }
 

@@ -1,6 +1,6 @@
 //! What the devices do to a folder in several calls.
 
-ghost use Rattle.std.specs.Prelude.{◌≡◌, ◌++◌, true, OnOk};
+ghost use Rattle.std.specs.Prelude.{◌≡◌, ◌-◌, ◌%◌, ◌++◌, true, OnOk};
 ghost use Rattle.folder_store.specs.PowerLoss.{disk_at};
 ghost use Rattle.mail_store.specs.DiskCalls.{AppendsDisk, CutsDisk, FlushesBoth, ReplacesDisk};
 
@@ -30,6 +30,13 @@ fn append_flushed<F: FileFolder>(folder: &mut F, name: &str, bytes: &[u8]) -> Re
     folder.flush(name)
 }
 
+/// How many octets the block has room for in which a file of this size ends.
+fn room_after(size: u64) -> usize
+    ensures { result ≡ 512 - size % 512 }
+{
+    BLOCK - (size % BLOCK as u64) as usize
+}
+
 /// The same, but flushes at each border of 512 octets of the file before it writes more.
 fn append_blocks<F: FileFolder>(folder: &mut F, name: &str, bytes: &[u8]) -> Result<(), StoreFault>
     ensures { F.sound folder.new → F.sound folder.old
@@ -37,8 +44,7 @@ fn append_blocks<F: FileFolder>(folder: &mut F, name: &str, bytes: &[u8]) -> Res
         (disk_at (F.directory folder.new) name.now) }
 {
     let size = folder.size(name)?;
-    let room = BLOCK - (size % BLOCK as u64) as usize;
-    let (front, mut rest) = bytes.split_at(room.min(bytes.len()));
+    let (front, mut rest) = bytes.split_at(room_after(size).min(bytes.len()));
     append_flushed(folder, name, front)?;
     while !rest.is_empty() {
         let (block, after) = rest.split_at(BLOCK.min(rest.len()));

@@ -1,7 +1,7 @@
 //! The names of a folder, listed exactly although others rename files in it meanwhile.
 
 ghost use Rattle.std.specs.{Prelude.{◌≡◌, ◌≢◌, pos}, Duration.as_nanos};
-ghost use Rattle.folder_store.specs.ExactListing.{IsExactListing, left_of};
+ghost use Rattle.folder_store.specs.ExactListing.{IsExactListing, age_at, left_of};
 
 use crate::mail_folders::Sought;
 use mail_store::Asked;
@@ -67,7 +67,9 @@ impl ChangeTime {
     }
 
     /// How long ago it was at a time since 1970. Zero if it is later, or before 1970.
-    fn age(self, now: Duration) -> Duration {
+    fn age(self, now: Duration) -> Duration
+        ensures { as_nanos result ≡ age_at self.seconds self.nanoseconds (as_nanos now) }
+    {
         let Ok(nanoseconds) = u64::try_from(self.nanoseconds) else {
             return Duration::ZERO;
         };

@@ -14,7 +14,7 @@ ghost use Rattle.folder_store.specs.{
 use crate::cut_off::{CutOff, append_noting, cut_keeping};
 use crate::durable_file::{Appending, flush_both, replace_flushed};
 use crate::file_folder::{FileFolder, FolderState};
-use crate::host::HostFolder;
+use crate::host::{CallsFolder, HostFolder};
 use crate::process_mark::ProcessMark;
 use crate::system::parts_of;
 use crate::tally::tally;
@@ -139,7 +139,7 @@ impl<'a, R: Files + AllocGlobal> HostFile<'a, HostFolder<'a, R>> {
         ensures place { IsFileAt result.folder.paths result.name.now path.now }
     {
         let (folder, name) = parts_of(path);
-        let folder = HostFolder::at(system, folder, mark, false);
+        let folder = CallsFolder::at(system, folder, mark, false);
         HostFile::over(folder, name, Appending::AtOnce)
     }
 
@@ -155,7 +155,7 @@ impl<'a, R: Files + AllocGlobal> HostFile<'a, HostFolder<'a, R>> {
         ensures place { IsFileAt result.folder.paths result.name.now path.now }
     {
         let (folder, name) = parts_of(path);
-        let folder = HostFolder::at(system, folder, mark, true);
+        let folder = CallsFolder::at(system, folder, mark, true);
         HostFile::over(folder, name, Appending::ByBlocks)
     }
 
@@ -172,7 +172,7 @@ impl<'a, R: Files + AllocGlobal> HostFile<'a, HostFolder<'a, R>> {
         ensures rests { IsSomeAnd result.cut_off (λ kept. IsFileAt kept.folder.paths kept.name.now cut_off.now) }
     {
         let (folder, name) = parts_of(cut_off);
-        let kept = CutOff::over(HostFolder::at(system, folder, mark, false), name);
+        let kept = CutOff::over(CallsFolder::at(system, folder, mark, false), name);
         let mut file = HostFile::at(system, path, mark);
         file.cut_off = Some(kept);
         file

@@ -3,11 +3,14 @@
 ghost use Rattle.std.specs.{Prelude.{◌≡◌, ◌<◌, ◌↔◌, IsTrue, Ok, Some, codes, false, true}, Duration.as_nanos};
 ghost use Rattle.folder_store.specs.{HostPaths.AreInMaildir, MailFolders.unknown_directories};
 
+use crate::calls::FileCalls;
 use crate::exact_listing::{ChangeTime, Wanted};
 use crate::file_folder::FileFolder;
 use crate::flush_pass::{Found, unsettled};
-use crate::host::{HostFolder, HostNewFile, answer_of};
+use crate::host::{CallsFolder, HostFolder};
+use crate::host_calls::HostCalls;
 use crate::mail_folders::{FoundNames, MailFolders, Sought};
+use crate::new_file::{HostNewFile, answer_of};
 use crate::process_mark::ProcessMark;
 use mail_store::{Folder, StoreFault, stem};
 use std::alloc::{AllocError, Global};
@@ -24,8 +27,8 @@ const MOST_PASSES: u32 = 8;
 
 /// A folder, and its time of change when it was last listed.
 #[derive(Drop)]
-struct ListedFolder<'a, R: Files> {
-    host: HostFolder<'a, R>,
+struct ListedFolder<'a, C: FileCalls> {
+    host: CallsFolder<'a, C>,
     change: Option<ChangeTime>,
 }
 
@@ -33,10 +36,10 @@ struct ListedFolder<'a, R: Files> {
 /// Nothing is known of what the system does. Each call asks the system for one or two things, so that
 /// a reader can compare it with what the trait says.
 #[derive(Drop)]
-pub struct HostFolders<'a, R: Files> {
+pub struct CallsFolders<'a, R, C: FileCalls> {
     system: &'a System<'a, R>,
-    new_folder: ListedFolder<'a, R>,
-    cur_folder: ListedFolder<'a, R>,
+    new_folder: ListedFolder<'a, C>,
+    cur_folder: ListedFolder<'a, C>,
     /// When a folder was first seen to change during the present answer, by the clock that never goes back.
     start: Duration,
     /// The path of each name that was last found to be odd, and why it is.
@@ -45,7 +48,10 @@ pub struct HostFolders<'a, R: Files> {
     is_name_taken: bool,
 }
 
-impl<'a, R: Files + AllocGlobal> ListedFolder<'a, R> {
+/// The folders of a Maildir in the machine's file system.
+pub type HostFolders<'a, R> = CallsFolders<'a, R, HostCalls<'a, R>>;
+
+impl<'a, R: Files + AllocGlobal> ListedFolder<'a, HostCalls<'a, R>> {
     fn of_maildir(
         system: &'a System<'a, R>,
         path: &'a str,
@@ -55,13 +61,13 @@ impl<'a, R: Files + AllocGlobal> ListedFolder<'a, R> {
         ensures { AreInMaildir result.host.paths path.now folder.now }
     {
         ListedFolder {
-            host: HostFolder::of_maildir(system, path, folder, mark),
+            host: CallsFolder::of_maildir(system, path, folder, mark),
             change: None,
         }
     }
 }
 
-impl<'a, R: Files + Clock + AllocGlobal + Clone + Drop> HostFolders<'a, R> {
+impl<'a, R: Files + Clock + AllocGlobal + Clone + Drop> CallsFolders<'a, R, HostCalls<'a, R>> {
     /// The folders of the Maildir at a path, absolute or taken from the working folder.
     pub fn of_maildir(
         system: &'a System<'a, R>,
@@ -72,7 +78,7 @@ impl<'a, R: Files + Clock + AllocGlobal + Clone + Drop> HostFolders<'a, R> {
         ensures in_new { AreInMaildir result.new_folder.host.paths path.now (codes "new") }
         ensures in_cur { AreInMaildir result.cur_folder.host.paths path.now (codes "cur") }
     {
-        HostFolders::named(system, path, ("new", "cur"), mark)
+        CallsFolders::named(system, path, ("new", "cur"), mark)
     }
 
     /// The same, if these are the names of the two folders in the folder at the path.
@@ -86,7 +92,7 @@ impl<'a, R: Files + Clock + AllocGlobal + Clone + Drop> HostFolders<'a, R> {
         ensures in_new { AreInMaildir result.new_folder.host.paths path.now names.entry.0.now }
         ensures in_cur { AreInMaildir result.cur_folder.host.paths path.now names.entry.1.now }
     {
-        HostFolders {
+        CallsFolders {
             system,
             new_folder: ListedFolder::of_maildir(system, path, names.0, mark),
             cur_folder: ListedFolder::of_maildir(system, path, names.1, mark),
@@ -103,12 +109,16 @@ impl<'a, R: Files + Clock + AllocGlobal + Clone + Drop> HostFolders<'a, R> {
     }
 
     /// What bears the name of a message and can't be opened: the path of each, and why.
-    pub fn obstructions(&self) -> &[Vec<u8>] {
+    pub fn obstructions(&self) -> &[Vec<u8>]
+        ensures { result.now ≡ self.now.obstructions.items }
+    {
         &self.obstructions
     }
 
     /// Whether a delivery was refused because something that is no file has its name.
-    pub fn is_name_taken(&self) -> bool {
+    pub fn is_name_taken(&self) -> bool
+        ensures { result ≡ self.now.is_name_taken }
+    {
         self.is_name_taken
     }
 
@@ -241,14 +251,14 @@ impl<'a, R: Files + Clock + AllocGlobal + Clone + Drop> HostFolders<'a, R> {
         may_list_both(now.saturating_sub(self.start))
     }
 
-    fn folder(&self, folder: Folder) -> &ListedFolder<'a, R> {
+    fn folder(&self, folder: Folder) -> &ListedFolder<'a, HostCalls<'a, R>> {
         match folder {
             Folder::New => &self.new_folder,
             Folder::Cur => &self.cur_folder,
         }
     }
 
-    fn folder_mut(&mut self, folder: Folder) -> &mut ListedFolder<'a, R> {
+    fn folder_mut(&mut self, folder: Folder) -> &mut ListedFolder<'a, HostCalls<'a, R>> {
         match folder {
             Folder::New => &mut self.new_folder,
             Folder::Cur => &mut self.cur_folder,
@@ -303,7 +313,8 @@ fn sync_named<R: Files + AllocGlobal>(
     Ok(())
 }
 
-impl<'a, R: Files + Clock + AllocGlobal + Clone + Drop> MailFolders for HostFolders<'a, R> {
+impl<'a, R: Files + Clock + AllocGlobal + Clone + Drop> MailFolders
+    for CallsFolders<'a, R, HostCalls<'a, R>> {
     type File = HostNewFile<'a, R>;
 
     ghost directories = { λ _. unknown_directories };

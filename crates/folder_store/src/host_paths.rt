@@ -1,7 +1,10 @@
 //! The paths of a folder of the machine's file system.
 
-ghost use Rattle.std.specs.{Prelude.{◌≡◌, ◌++◌, IfOk, string_bytes}, Path.path_buf_bytes};
-ghost use Rattle.folder_store.specs.HostPaths.{path_of_file, path_of_folder, with_process_mark};
+ghost use Rattle.std.specs.{Prelude.{◌≡◌, ◌++◌, IfErr, IfOk, string_bytes}, Path.path_buf_bytes};
+ghost use Rattle.folder_store.specs.{
+  Calls.IsAbsent,
+  HostPaths.{folder_of, path_named, path_of_file, path_of_folder, with_process_mark},
+};
 
 use crate::process_mark::ProcessMark;
 use std::alloc::Global;
@@ -26,7 +29,8 @@ pub struct HostPaths<'a> {
 impl<'a> HostPaths<'a> {
     // The path of a folder, made with room for so many octets more.
     fn path_in(&self, folder: &str, more: usize) -> Result<PathBuf, Denial>
-        ensures { IfOk result (λ path. path_buf_bytes path ≡ path_of_folder self.now.base.now folder.now) }
+        ensures path { IfOk result (λ path. path_buf_bytes path ≡ path_of_folder self.now.base.now folder.now) }
+        ensures fault { IfErr result (λ d. IsAbsent d → ⊥) }
     {
         let room = self
             .base
@@ -43,17 +47,24 @@ impl<'a> HostPaths<'a> {
         Ok(path)
     }
 
-    fn file_path(&self, folder: &str, name: &str) -> Result<String, Denial>
-        ensures { IfOk result (λ path. string_bytes path ≡ path_of_file self.now.base.now folder.now name.now) }
+    // The path of a name in a folder, with text behind it.
+    fn file_path(&self, folder: &str, name: &str, suffix: &str) -> Result<String, Denial>
+        ensures path { IfOk result (λ path. string_bytes path
+            ≡ path_of_file self.now.base.now folder.now name.now ++ suffix.now) }
+        ensures fault { IfErr result (λ d. IsAbsent d → ⊥) }
     {
-        let mut path = self.path_in(folder, name.len())?;
-        path.push(name)?;
-        Ok(path.into_string())
+        let mut path = self.path_in(folder, name.len().saturating_add(suffix.len()))?;
+        path.push("")?;
+        let mut path = path.into_string();
+        path.push_str(name)?;
+        path.push_str(suffix)?;
+        Ok(path)
     }
 
     /// The path of the folder.
     pub fn folder_path(&self) -> Result<String, Denial>
-        ensures { IfOk result (λ path. string_bytes path ≡ path_of_folder self.now.base.now self.now.folder.now) }
+        ensures path { IfOk result (λ path. string_bytes path ≡ folder_of self.now) }
+        ensures fault { IfErr result (λ d. IsAbsent d → ⊥) }
     {
         Ok(self.path_in(self.folder, 0)?.into_string())
     }
@@ -67,28 +78,27 @@ impl<'a> HostPaths<'a> {
 
     /// The path of a file.
     pub fn path_of(&self, name: &str) -> Result<String, Denial>
-        ensures { IfOk result (λ path. string_bytes path
-            ≡ path_of_file self.now.base.now self.now.folder.now name.now) }
+        ensures path { IfOk result (λ path. string_bytes path ≡ path_named self.now name.now) }
+        ensures fault { IfErr result (λ d. IsAbsent d → ⊥) }
     {
-        self.file_path(self.folder, name)
+        self.file_path(self.folder, name, "")
     }
 
     /// The path of a file that is made to be put under a name.
     pub fn made_path(&self, name: &str) -> Result<String, Denial>
-        ensures { IfOk result (λ path. string_bytes path ≡ path_of_file self.now.base.now self.now.scratch.now name.now
+        ensures path { IfOk result
+            (λ path. string_bytes path ≡ path_of_file self.now.base.now self.now.scratch.now name.now
             ++ with_process_mark self.now.mark self.now.suffix.now) }
+        ensures fault { IfErr result (λ d. IsAbsent d → ⊥) }
     {
         let mark = self.mark.marked(self.alloc, self.suffix)?;
-        let room = name.len().saturating_add(mark.len());
-        let mut path = self.path_in(self.scratch, room)?;
-        path.push(name)?;
-        let mut path = path.into_string();
-        path.push_str(mark.as_str())?;
-        Ok(path)
+        self.file_path(self.scratch, name, mark.as_str())
     }
 
     /// Why a file isn't used.
-    pub fn refusal(&self, name: &str, words: &str) -> Denial {
+    pub fn refusal(&self, name: &str, words: &str) -> Denial
+        ensures { IsAbsent result → ⊥ }
+    {
         match self.path_of(name) {
             Ok(path) => Denial::because(self.alloc, path.as_str(), words),
             Err(denial) => denial,

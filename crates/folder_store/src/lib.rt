@@ -1,6 +1,7 @@
 //! A Maildir and files in folders of a file system.
 #![tactic(auto)]
 
+mod calls;
 mod cut_off;
 mod durable_file;
 mod durable_names;
@@ -11,23 +12,31 @@ mod file_state;
 mod flush_pass;
 mod handles;
 mod host;
+mod host_calls;
 mod host_folders;
 mod host_paths;
+mod kept_file;
 mod laws;
 mod mail_folders;
 mod maildir;
+mod new_file;
+mod opened_file;
 mod process_mark;
 mod system;
 mod tally;
+mod watch;
 
+pub use calls::{Access, FileCalls, FileKind, FileStat, MadeHandle, OpenHandle};
 pub use durable_file::Appending;
 pub use durable_names::list_both;
 pub use exact_listing::ChangeTime;
 pub use file::{HostFile, new_files_keep_bytes};
 pub use file_folder::{FileFolder, FolderState, NewFile};
-pub use host::{HostFolder, HostNewFile};
-pub use host_folders::HostFolders;
+pub use host::{CallsFolder, HostFolder};
+pub use host_calls::HostCalls;
+pub use host_folders::{CallsFolders, HostFolders};
 pub use laws::{mail_can_lose_power, power_leaves, readers_move};
 pub use mail_folders::{FoundNames, MailFolders, Sought};
 pub use maildir::{FolderMaildir, HostMaildir, new_maildirs_keep_mail};
+pub use new_file::{CallsNewFile, HostNewFile};
 pub use process_mark::ProcessMark;

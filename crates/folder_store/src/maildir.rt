@@ -1,18 +1,21 @@
 //! A Maildir in folders of a file system.
 
-ghost use Rattle.std.specs.Prelude.{◌≡◌, ◌<◌, ◌+◌, [], IfSome, codes, map, option_map, string_bytes};
+ghost use Rattle.std.specs.{
+  Prelude.{◌≡◌, ◌<◌, ◌+◌, [], IfSome, codes, map, option_map, string_bytes},
+  List.list_any,
+};
 ghost use Rattle.mail_terms.specs.FailureCount.{greatest_count};
 ghost use Rattle.folder_store.specs.{
   HostPaths.AreInMaildir,
-  MailFolders.{draft_begun, maildir_in, unknown_maildir},
+  MailFolders.{draft_begun, is_file_name, ends_name, maildir_in, unknown_maildir},
   NewDevices.{LeftMaildirsStay, LossesMayLeave, NewMaildirsKeepMail},
 };
 
 use crate::durable_names::{put_durably, told_names, told_names_of};
 use crate::file_folder::NewFile;
-use crate::host::HostNewFile;
-use crate::host_folders::HostFolders;
+use crate::host_folders::{CallsFolders, HostFolders};
 use crate::mail_folders::MailFolders;
+use crate::new_file::HostNewFile;
 use crate::process_mark::ProcessMark;
 use crate::tally::tally;
 use mail_store::{AccountId, Asked, Folder, MaildirDisk, StoreFault, admit, refuse};
@@ -81,7 +84,7 @@ impl<'a, R: Files + Clock + AllocGlobal + Clone + Drop> HostMaildir<'a, R> {
         ensures in_new { AreInMaildir result.folders.new_folder.host.paths path.now (codes "new") }
         ensures in_cur { AreInMaildir result.folders.cur_folder.host.paths path.now (codes "cur") }
     {
-        FolderMaildir::over(system.alloc(), HostFolders::of_maildir(system, path, mark))
+        FolderMaildir::over(system.alloc(), CallsFolders::of_maildir(system, path, mark))
     }
 
     /// Removes from `tmp` the files of an account that killed runs left behind: those that weren't
@@ -95,12 +98,16 @@ impl<'a, R: Files + Clock + AllocGlobal + Clone + Drop> HostMaildir<'a, R> {
 
     /// What the last call that told names found to bear the name of a message and couldn't open: the path of each, and
     /// why.
-    pub fn obstructions(&self) -> &[Vec<u8>] {
+    pub fn obstructions(&self) -> &[Vec<u8>]
+        ensures { result.now ≡ self.now.folders.obstructions.items }
+    {
         self.folders.obstructions()
     }
 
     /// Whether a delivery was refused because something that is no file has its name.
-    pub fn is_name_taken(&self) -> bool {
+    pub fn is_name_taken(&self) -> bool
+        ensures { result ≡ self.now.folders.is_name_taken }
+    {
         self.folders.is_name_taken()
     }
 
@@ -111,10 +118,27 @@ impl<'a, R: Files + Clock + AllocGlobal + Clone + Drop> HostMaildir<'a, R> {
     }
 }
 
+/// Whether an octet is in no file's name.
+fn ends_name(octet: u8) -> bool
+    ensures { result ≡ ends_name octet }
+{
+    octet == b'/' || octet == 0
+}
+
+/// Whether octets have one that is in no file's name.
+fn has_end(octets: &[u8]) -> bool
+    ensures { result ≡ list_any ends_name octets.now }
+{
+    octets.iter().any(|octet| ends_name(*octet))
+}
+
 /// Whether a name stands for a file of the folder itself that readers of a Maildir look at: it
 /// isn't empty, doesn't begin with a full stop and holds no `/` and no NUL.
-fn is_file_name(name: &str) -> bool {
-    !name.is_empty() && !name.starts_with('.') && !name.bytes().any(|b| b == b'/' || b == 0)
+fn is_file_name(name: &str) -> bool
+    ensures { result ≡ is_file_name name.now }
+{
+    let octets = name.as_bytes();
+    !octets.is_empty() && !octets.starts_with(b".") && !has_end(octets)
 }
 
 impl<N: NewFile + Drop, F: MailFolders<File = N> + Drop> MaildirDisk for FolderMaildir<F, N> {

@@ -1,17 +1,16 @@
-//! What the devices of the file system share: making a file, flushing a folder, and removing what
-//! killed runs left behind.
+//! What the devices of the file system share: the parts of a path, and removing what killed runs left behind.
 
+ghost use Rattle.std.specs.{Prelude.{◌≡◌, ◌≢◌, Err, IfErr, IfOk, IsErrAnd, MatchOption, Ok}, IoError.error_kind};
 ghost use Rattle.folder_store.specs.HostPaths.{ArePartsOf};
 
 use crate::process_mark::is_marked;
-use std::fs::{Metadata, OpenFile, OpenOptions};
+use std::fs::{Metadata, OpenFile};
 use std::io::ErrorKind;
-use std::os::unix::fs::OpenOptionsExt;
 use std::path::PathBuf;
 use std::rt::Files;
 use std::time::{Clock, SystemTime};
 use std::{fs, io};
-use system_calls::{Denial, Noted, System};
+use system_calls::{Denial, OpenAt, System};
 
 /// How many seconds nothing is written to a file before it counts as left behind. A run at work waits
 /// for the server for three minutes at most.
@@ -20,28 +19,17 @@ const LEFT_BEHIND_SECONDS: u64 = 3_600;
 /// How many links the system follows in a path, at most.
 const MOST_LINKS: u32 = 40;
 
-/// Makes an empty file; fails if there is one. Its owner alone can read and write it (mode 0600).
-pub fn make_file<'a, R: Files + AllocGlobal>(
-    system: &System<'a, R>,
-    path: &str,
-) -> Result<Noted<'a, R::File>, Denial> {
-    system.open_with(
-        OpenOptions::new().write(true).create_new(true).mode(0o600),
-        path,
-    )
-}
-
 /// Flushes the names of a folder to the disk. False if the system flushes no folders, which is no
 /// fault.
-pub fn flush_folder<F: OpenFile>(folder: &Noted<'_, F>) -> Result<bool, Denial> {
-    match folder.sync_all() {
+pub fn flush_folder<F: OpenFile>(folder: &OpenAt<F>) -> Result<bool, Denial> {
+    match folder.asked("fsync", folder.inner.sync_all()) {
         Err(fault)
             if matches!(
                 fault.kind(),
                 ErrorKind::InvalidInput | ErrorKind::Unsupported
             ) => Ok(false),
         answer => {
-            folder.at(answer)?;
+            answer?;
             Ok(true)
         }
     }
@@ -108,7 +96,12 @@ fn entry_in<T, R: AllocGlobal>(
     system: &System<'_, R>,
     folder: &str,
     entry: io::Result<T>,
-) -> Result<Option<T>, Denial> {
+) -> Result<Option<T>, Denial>
+    ensures read { IfOk result (λ read. MatchOption read
+        (IsErrAnd entry (λ error. error_kind error ≡ ErrorKind.InvalidFilename)) (λ value. entry ≡ Ok value)) }
+    ensures denied { IfErr result (λ denial. (entry ≡ Err denial.error)
+        × (error_kind denial.error ≢ ErrorKind.InvalidFilename)) }
+{
     match entry {
         Err(fault) if fault.kind() == ErrorKind::InvalidFilename => Ok(None),
         entry => Ok(Some(system.asked("read", folder, entry)?)),

@@ -11,7 +11,7 @@ use Rattle.getmail_setup.{specs.{declared.output.Output.Output, Output.{Puts, Pu
 use Rattle.rc_file.specs.declared.settings.Settings.{Settings}
 use Rattle.getmail_program.specs.{
   declared.teller.Teller.Teller,
-  Teller.{StartsTelling, EarlyLine, HasLast, HasSameLinks, StaysClosed, TellsEarly, Wrote, WroteMore, WroteText, early_text},
+  Teller.{StartsTelling, EarlyLine, HasSameLinks, HearsPlans, StaysClosed, TellsEarly, Wrote, WroteMore, WroteText, early_text},
 }
 
 -- a first line, and then lines
@@ -39,16 +39,16 @@ early_or_whole contents settings out a b written text out' begun same more is (i
 
 -- what a teller has told that was told of one plan at most
 pub heard_of : {O : Type 0} (contents : O → Option (List ℕ)) (Is : List Step → Type 0) (a b : Teller O)
-    → HearsOne (λ (a : Teller O) plans b. HasSameLinks a b × WroteMore contents a b × HasLast plans a b) Is a b
+    → HearsOne (HearsPlans contents) Is a b
     → HasSameLinks a b × WroteMore contents a b
     × ((b.notes.now.plan.items ≡ a.notes.now.plan.items) ⊎ Is b.notes.now.plan.items)
-heard_of contents Is a b (inl none) = (none.0, none.1, inl none.2)
-heard_of contents Is a b (inr one) = (one.2.0, one.2.1, inr (rw one.2.2 one.1))
+heard_of contents Is a b (inl none) = (none.links, none.wrote, inl none.plan)
+heard_of contents Is a b (inr (plan, is, one)) = (one.links, one.wrote, inr (rw one.plan is))
 
 -- a line, or nothing
-pub one_line : {O : Type 0} (contents : O → Option (List ℕ)) (a b : Teller O) (told : EarlyLine)
+pub one_early_line : {O : Type 0} (contents : O → Option (List ℕ)) (a b : Teller O) (told : EarlyLine)
     → WroteText contents (early_text a.verbose told) a b → StaysClosed contents a b → WroteMore contents a b
-one_line contents a b told wrote closed = elim wrote [
+one_early_line contents a b told wrote closed = elim wrote [
   | inl nothing ↦ record { lines = []; wrote = nothing; closed = closed }
   | inr whole ↦ record {
     lines = told ∷ [];

@@ -9,16 +9,16 @@ use Rattle.getmail_setup.specs.{
 pub use Rattle.getmail_setup.proofs.OutputLemmas.{puts_both}
 use Rattle.getmail_program.specs.Telling.{SaysReasons, TellsCut, told_fault_line}
 
-is_some : (why : OutputRefusal) → Some why ≢ None
-is_some why = search rules
+never_none : (why : OutputRefusal) → Some why ≢ None
+never_none why = search rules
 
 -- memory ran out for what follows
 pub puts_lacking : {W : Type 0} (contents : W → Option (List ℕ)) (old mid new : Output W) (octets : List ℕ) → Puts contents old octets mid
     → new ≡ record { writer = mid.writer; refusal = Some NoMemory } → (new.refusal ≢ None) × Puts contents old (octets ++ []) new
 puts_lacking contents old mid new octets put is = rw is (
-  is_some NoMemory,
+  never_none NoMemory,
   record {
-    whole = λ clean. absurd (is_some NoMemory clean);
+    whole = λ clean. absurd (never_none NoMemory clean);
     front = record {
       front = put.front.front;
       rest = put.front.rest;

@@ -1,6 +1,6 @@
 -- What was noted of a session that a fault cut: which file or folder its refused call was about.
 use Rattle.std.specs.{
-  Prelude.{◌≡◌, ◌⊎◌, ◌↔◌, ◌==◌, ◌+◌, ◌++◌, ℕ, Bool, true, false, not, List, [], Option, None, Some, bytes_eq},
+  Prelude.{◌≡◌, ◌≢◌, ◌⊎◌, ◌↔◌, ◌==◌, ◌+◌, ◌++◌, ℕ, Bool, true, false, not, List, [], Option, None, Some, bytes_eq},
   Prelude.{IsSomeAnd, IsTrue, codes, drop, length, take, if◌then◌else◌},
   IoError.error_kind,
   List.{ends_with, prefix_len, starts_with},
@@ -12,7 +12,7 @@ use Rattle.fetch_session.specs.declared.{
   fault.{Fault.{Fault, TheVariants.{StoreRefused, SeenRefused}}, Why.{Why, TheVariants.{Missing, Refused, NotMbox}}},
   report.Outcome.{Outcome, TheVariants.Cut},
 }
-use Rattle.system_calls.specs.declared.refusal.Refusal.{Refusal}
+use Rattle.system_calls.specs.{Line.IsRefusalText, declared.refusal.Refusal.Refusal}
 use Rattle.getmail_program.specs.declared.findings.Findings.{Findings}
 
 abbrev pub is_slash : ℕ → Bool
@@ -50,8 +50,9 @@ IsRecordFolder path seen place = ((bytes_eq path seen ≡ true) × (place ≡ pa
     ⊎ ((bytes_eq path seen ≡ false) × (((name : List ℕ) × SplitsAroundMatch (RFindsChar 47) path place name)
     ⊎ (RFindsChar 47 path None × (place ≡ path))))
 
--- the path that a fault is told with, by the path of the call that was refused to its device, and whether that was for
--- want of rights: of a folder in which something is missing or may not be written, and not of a file that never was
+-- the path that a fault is told with, by the path of the call that was refused to its device, and whether that was
+-- because rights were missing: of a folder in which something is missing or may not be written, and not of a file that
+-- never was
 abbrev pub IsStorePlace : Why → Bool → List ℕ → List ℕ → List ℕ → Type 0
 IsStorePlace Missing true path destination place = IsDeniedIn path destination place
 IsStorePlace Missing false path destination place = IsFolderIn path destination place
@@ -68,7 +69,7 @@ IsPlace (StoreRefused why) is_denied path destination seen place = IsStorePlace 
 IsPlace SeenRefused is_denied path destination seen place = IsRecordPlace is_denied path seen place
 IsPlace fault is_denied path destination seen place = place ≡ path
 
--- it was refused for want of rights
+-- it was refused because rights were missing
 abbrev pub IsDenied : Option Refusal → Bool → Type 0
 IsDenied refusal is_denied =
     IsTrue is_denied ↔ IsSomeAnd refusal (λ refusal. error_kind refusal.error ≡ PermissionDenied)
@@ -80,10 +81,11 @@ IsToldAt fault destination seen (Some refusal) told = IsSomeAnd told (λ told. (
     × ((is_denied : Bool) × IsDenied (Some refusal) is_denied
     × IsPlace fault is_denied (string_bytes refusal.path) destination seen (string_bytes told.path)))
 
--- the words of a refusal: of a call that waited for a limited time these; else the system's, of which nothing is said
+-- the words of a refusal have its path: of a call that waited for a limited time these; else the system's
 abbrev pub IsWaited : Refusal → List ℕ → Type 0
-IsWaited refusal text = error_kind refusal.error ≡ WouldBlock
-    → text ≡ string_bytes refusal.path ++ codes ": silent for 180 seconds"
+IsWaited refusal text =
+    ((error_kind refusal.error ≡ WouldBlock) × (text ≡ string_bytes refusal.path ++ codes ": silent for 180 seconds"))
+    ⊎ ((error_kind refusal.error ≢ WouldBlock) × IsRefusalText (string_bytes refusal.path) text)
 
 abbrev pub IsRefusedText : Option Refusal → List ℕ → Type 0
 IsRefusedText None text = text ≡ []

@@ -11,7 +11,6 @@ use Rattle.std.specs.{
 }
 use Rattle.httpdate.specs.{Date.{date_text, unix_secs}, declared.date.HttpDate.HttpDate}
 use Rattle.mail_terms.specs.Text.{is_line_feed}
-use Rattle.mail_store.specs.FileName.{account_text}
 use Rattle.run_memory.specs.{
   Memory.{Told, memory_text},
   News.{IsNews, is_silent, told_next},
@@ -23,6 +22,7 @@ use Rattle.run_memory.specs.{
 }
 use Rattle.getmail_setup.specs.{
   Clock.second_of,
+  Digest.digest_text,
   Output.Puts,
   declared.{
     journal.{Part.Part, Subject.{Subject, TheVariants.{Fault, Notice, Lasting, LeftOut}}},
@@ -39,11 +39,11 @@ utf8_in octets = if is_utf8 octets then octets else []
 
 -- a fault is known by its line, without the lines of its reason, and by the path that it is about
 abbrev pub fault_key : Part → List ℕ
-fault_key part = account_text (utf8_in (before_first is_line_feed part.text.items)) 0 (utf8_in part.place.items)
+fault_key part = digest_text (utf8_in (before_first is_line_feed part.text.items)) (utf8_in part.place.items)
 
 -- a notice is known by its text
 abbrev pub notice_key : Part → List ℕ
-notice_key part = account_text (utf8_in part.text.items) 0 []
+notice_key part = digest_text (utf8_in part.text.items) []
 
 -- ---- lines
 

@@ -28,10 +28,10 @@ abbrev pub early_text : ℕ → EarlyLine → List ℕ
 early_text verbose told = if is_deletion told.line then [] else explained_line verbose told.total told.plan told.line
 
 -- it has the same output, keeps what it wrote in the same place, and tells as much
-abbrev pub HasSameLinks : {O : Type 0} → Teller O → Teller O → Type 0
-HasSameLinks old new =
-    (new.out.ghost_name ≡ old.out.ghost_name) × (new.notes.ghost_name ≡ old.notes.ghost_name)
-    × (new.verbose ≡ old.verbose)
+pub record HasSameLinks {O : Type 0} (old new : Teller O) : Type 0 where
+  pub out : new.out.ghost_name ≡ old.out.ghost_name
+  pub notes : new.notes.ghost_name ≡ old.notes.ghost_name
+  pub verbose : new.verbose ≡ old.verbose
 
 -- the last of these plans, or else this one
 abbrev pub last_plan : List Step → List (List Step) → List Step
@@ -61,6 +61,13 @@ pub record WroteMore {O : Type 0} (contents : O → Option (List ℕ)) (old new 
   pub wrote : Wrote contents (flat_map (early_text old.verbose) lines) old new
   pub closed : StaysClosed contents old new
 
+-- it was told of these plans and of lines
+pub record HearsPlans {O : Type 0} (contents : O → Option (List ℕ)) (old : Teller O) (plans : List (List Step))
+    (new : Teller O) : Type 0 where
+  pub links : HasSameLinks old new
+  pub wrote : WroteMore contents old new
+  pub plan : HasLast plans old new
+
 -- the first line of a report was written to the output and is kept, or nothing
 pub record StartsTelling {O : Type 0} (contents : O → Option (List ℕ)) (settings : Settings) (out : Output O)
     (teller : Teller O) : Type 0 where
@@ -83,11 +90,11 @@ last_on : (kept : List Step) (ps qs : List (List Step))
 last_on kept [] qs = refl
 last_on kept (p ∷ ps) qs = last_on p ps qs
 
-pub has_last : {O : Type 0} (a b c : Teller O) (ps qs : List (List Step)) → HasLast ps a b → HasLast qs b c
+has_last : {O : Type 0} (a b c : Teller O) (ps qs : List (List Step)) → HasLast ps a b → HasLast qs b c
     → HasLast (ps ++ qs) a c
 has_last a b c ps qs p q = q ∙ ap (λ kept. last_plan kept qs) p ∙ sym (last_on a.notes.now.plan.items ps qs)
 
-pub wrote_none : {O : Type 0} (contents : O → Option (List ℕ)) (a : Teller O) → Wrote contents [] a a
+wrote_none : {O : Type 0} (contents : O → Option (List ℕ)) (a : Teller O) → Wrote contents [] a a
 wrote_none contents a =
     record { kept = sym (append-nil a.notes.now.written.items); puts = puts_none contents a.out.now }
 
@@ -99,14 +106,14 @@ wrote_then contents first second a b c p q = record {
   puts = puts_both contents a.out.now b.out.now c.out.now first second p.puts q.puts;
 }
 
-pub wrote_nothing : {O : Type 0} (contents : O → Option (List ℕ)) (a : Teller O) → WroteMore contents a a
+wrote_nothing : {O : Type 0} (contents : O → Option (List ℕ)) (a : Teller O) → WroteMore contents a a
 wrote_nothing contents a = record {
   lines = [];
   wrote = wrote_none contents a;
   closed = λ closed. (closed, wrote_none contents a);
 }
 
-pub wrote_both : {O : Type 0} (contents : O → Option (List ℕ)) (a b c : Teller O) → b.verbose ≡ a.verbose
+wrote_both : {O : Type 0} (contents : O → Option (List ℕ)) (a b c : Teller O) → b.verbose ≡ a.verbose
     → WroteMore contents a b
     → WroteMore contents b c → WroteMore contents a c
 wrote_both contents a b c same p q = record {
@@ -119,4 +126,23 @@ wrote_both contents a b c same p q = record {
       let first = p.closed closed in
       let second = q.closed first.0 in
       (second.0, wrote_then contents [] [] a b c first.1 second.1);
+}
+
+pub heard_nothing : {O : Type 0} (contents : O → Option (List ℕ)) (a : Teller O) → HearsPlans contents a [] a
+heard_nothing contents a = record {
+  links = record { out = refl; notes = refl; verbose = refl };
+  wrote = wrote_nothing contents a;
+  plan = refl;
+}
+
+pub heard_both : {O : Type 0} (contents : O → Option (List ℕ)) (a b c : Teller O) (ps qs : List (List Step))
+    → HearsPlans contents a ps b → HearsPlans contents b qs c → HearsPlans contents a (ps ++ qs) c
+heard_both contents a b c ps qs p q = record {
+  links = record {
+    out = q.links.out ∙ p.links.out;
+    notes = q.links.notes ∙ p.links.notes;
+    verbose = q.links.verbose ∙ p.links.verbose;
+  };
+  wrote = wrote_both contents a b c p.links.verbose p.wrote q.wrote;
+  plan = has_last a b c ps qs p.plan q.plan;
 }

@@ -5,10 +5,13 @@ use Rattle.std.specs.{
 }
 use Rattle.rc_file.specs.declared.settings.Settings.{Settings}
 use Rattle.fetch_session.specs.{
-  declared.{fault.Fault.Fault, report.{LeftOut.LeftOut, Outcome.{Outcome, TheVariants.{Ended, Cut}}, Report.Report}},
+  declared.{
+    fault.Fault.{Fault, TheVariants.{NoMemory as OutOfMemory}},
+    report.{LeftOut.LeftOut, Outcome.{Outcome, TheVariants.{Ended, Cut}}, Report.Report},
+  },
   Reasons.told_report,
   Telling.preview_text,
-  Text.{fault_text, outcome_number},
+  Text.fault_text,
 }
 use Rattle.fetch_rules.specs.declared.plans.Step.{Step}
 use Rattle.run_memory.specs.declared.run.Counts.{Counts}
@@ -94,7 +97,8 @@ SaysLeftOut settings asked told line = line ≡ []
 
 -- a session was cut for want of memory, which the line of its fault says
 abbrev pub lacks_memory : Outcome → Bool
-lacks_memory outcome = outcome_number outcome == 13
+lacks_memory (Cut OutOfMemory) = true
+lacks_memory outcome = false
 
 -- the line of a text that wasn't written to standard output; want of memory is told once
 abbrev pub unwritten_line : Outcome → Option OutputRefusal → List ℕ

@@ -11,14 +11,11 @@ use crate::left_out::tell_left_out;
 use crate::reason::reasons_said;
 use crate::told::{RunTerms, Told};
 use fetch_rules::Settings;
-use fetch_session::{Outcome, fault_number};
+use fetch_session::{Fault, Outcome};
 use getmail_setup::{Errors, OUT_OF_MEMORY, Output, OutputRefusal, Subject};
 use std::alloc::{AllocError, Global};
 use std::io::Write;
 use std::vec::Vec;
-
-/// The number of want of memory among faults.
-const NO_MEMORY: u8 = 13;
 
 /// How a run ended.
 #[derive(Clone, Copy)]
@@ -78,7 +75,7 @@ fn tell_cut<E: Write>(
 fn lacks_memory(outcome: &Outcome) -> bool
     ensures { result ≡ lacks_memory outcome.now }
 {
-    fault_number(outcome) == NO_MEMORY
+    matches!(outcome, Outcome::Cut(Fault::NoMemory))
 }
 
 /// The line of a text that wasn't written to standard output after a session that came out in this way. Want

@@ -1,6 +1,6 @@
 //! A run over devices that are made for it.
 ghost use Rattle.std.specs.{
-  Prelude.{◌≡◌, ◌≤◌, ℕ, List, Option, Some, option_map},
+  Prelude.{◌≡◌, ◌≤◌, ◌==◌, ◌&&◌, ℕ, List, Option, Some, is_some, not, option_map},
   String.string_bytes,
   declared.time.SystemTime.SystemTime,
 };
@@ -9,7 +9,9 @@ ghost use Rattle.fetch_session.specs.{Account.IsSameAccount, Hearing.IsPlanOf};
 ghost use Rattle.getmail_setup.specs.{
   Clock.second_of,
   Failures.cause_line,
+  Listed.KeepsLarge,
   Output.Puts,
+  Progress.{IsShownOn, screen_for},
   declared.journal.Subject.Subject,
 };
 ghost use Rattle.getmail_program.specs.{
@@ -41,6 +43,12 @@ pub struct Errand<'a> {
     pub paths: &'a Paths,
     /// Whether it only shows what it would do.
     pub pretends: bool,
+}
+
+/// What a run has once it is connected: the link, and a hasher with keys of its own for the ids of the record.
+pub struct Connected<W, H> {
+    pub wire: W,
+    pub hasher: H,
 }
 
 /// What a run leaves, and how it came out.
@@ -175,7 +183,9 @@ fn shown<W: Wire, E: Write + Copy>(
     settings: &Settings,
     errors: &Errors<'_, E>,
 ) -> ShownWire<W, E>
-    ensures { result.wire ≡ wire }
+    ensures shown { IsShownOn (screen_for errors.now settings.now) wire result }
+    ensures listed { KeepsLarge (is_some errors.now.journal && not (settings.now.max_size == 0)) settings.now.max_size
+        result.listed }
 {
     let mut wire = ShownWire::new(alloc, wire, errors.screen(settings));
     if errors.journal.is_some() && settings.max_size != 0 {
@@ -255,7 +265,7 @@ pub fn fetch_at<'a, R, M, E, W, H, O>(
     rt: &R,
     devices: &M,
     errand: Errand<'a>,
-    link: (W, H),
+    link: Connected<W, H>,
     out: &mut Output<O>,
     mut errors: Errors<'_, E>,
 ) -> u8
@@ -271,10 +281,10 @@ where
     ensures fetches { (time : Option SystemTime) × (told : Told)
         × (fetched : FetchesAt W.Wire M.Maildir.MaildirDisk M.File.FlatFile
         (M.made_store devices.now) (M.made_record devices.now) (M.showed devices.now)
-        errand.entry.settings errand.entry.paths.now errand.entry.pretends time link.0 told)
+        errand.entry.settings errand.entry.paths.now errand.entry.pretends time link.wire told)
         × TellsOf O.contents E.contents errand.entry.settings errand.entry.paths.now
         (IsPlanOf W.Wire M.Maildir.MaildirDisk M.File.FlatFile (second_of time)
-        (holding_of errand.entry.settings fetched.store fetched.seen_file) link.0 fetched.left fetched.wire')
+        (holding_of errand.entry.settings fetched.store fetched.seen_file) link.wire fetched.left fetched.wire')
         told out.old errors.entry result out.new }
 {
     let Errand {
@@ -282,7 +292,7 @@ where
         paths,
         pretends,
     } = errand;
-    let (wire, hasher) = link;
+    let Connected { wire, hasher } = link;
     let alloc = rt.alloc();
     let mut wire = shown(alloc, wire, &settings, &errors);
     let destination = paths.destination.as_str();

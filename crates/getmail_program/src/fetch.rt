@@ -10,7 +10,7 @@ ghost use Rattle.getmail_program.specs.{
 };
 
 use crate::devices::HostDevices;
-use crate::errand::{Errand, fetch_at};
+use crate::errand::{Connected, Errand, fetch_at};
 use crate::news_file::{HostPast, Past, Waiting, patience};
 use fetch_rules::Settings;
 use file_reading::ReadFile;
@@ -77,7 +77,7 @@ fn fetch_setup<'a, R, E, W, H, O>(
     devices: &HostDevices<'a, R>,
     _lock: &Lock,
     errand: Errand<'a>,
-    link: (W, H),
+    link: Connected<W, H>,
     out: O,
     errors: Errors<'_, E>,
 ) -> u8
@@ -269,7 +269,7 @@ where
     if leaves {
         warn_of_network(&settings, &mut errors);
     }
-    let link = link_over(rt.alloc(), &stream, peer, &errors);
+    let wire = link_over(rt.alloc(), &stream, peer, &errors);
     let devices = HostDevices {
         for_store: &System::new(rt, &reasons.store),
         for_record: &System::new(rt, &reasons.record),
@@ -280,5 +280,6 @@ where
         paths: &paths,
         pretends,
     };
-    fetch_setup(&devices, &lock, errand, (link, hasher), out, errors)
+    let link = Connected { wire, hasher };
+    fetch_setup(&devices, &lock, errand, link, out, errors)
 }

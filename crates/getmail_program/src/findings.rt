@@ -39,7 +39,7 @@ pub struct Findings<'a> {
     pub said: Said,
     /// What the system refused to the device that the fault is of, and what it said.
     pub refused: Vec<u8>,
-    /// Whether it refused that for want of rights.
+    /// Whether it refused that because rights were missing.
     pub is_denied: bool,
     /// The destination's path.
     pub destination: &'a str,
@@ -139,10 +139,10 @@ fn denied_in<'a>(path: &'a str, destination: &'a str) -> &'a str
 }
 
 /// The folder of the record, if a path isn't the record's.
-fn record_folder<'a>(path: &'a str, record: &str) -> &'a str
-    ensures { IsRecordFolder path.entry.now record.now result.now }
+fn record_folder<'a>(path: &'a str, seen: &str) -> &'a str
+    ensures { IsRecordFolder path.entry.now seen.now result.now }
 {
-    if path.as_bytes() == record.as_bytes() {
+    if path.as_bytes() == seen.as_bytes() {
         return path;
     }
     match path.rsplit_once('/') {
@@ -173,11 +173,11 @@ fn place_in_store<'a>(why: Why, is_denied: bool, path: &'a str, destination: &'a
 }
 
 /// The path that a refused call of the record is told with.
-fn place_at_record<'a>(is_denied: bool, path: &'a str, record: &str) -> &'a str
-    ensures { IsRecordPlace is_denied path.entry.now record.now result.now }
+fn place_at_record<'a>(is_denied: bool, path: &'a str, seen: &str) -> &'a str
+    ensures { IsRecordPlace is_denied path.entry.now seen.now result.now }
 {
     if is_denied {
-        return record_folder(path, record);
+        return record_folder(path, seen);
     }
     path
 }
@@ -206,7 +206,7 @@ fn place_of(
     }
 }
 
-/// Whether something was refused for want of rights.
+/// Whether something was refused because rights were missing.
 fn is_denied(refusal: &Option<Refusal>) -> bool
     ensures { IsDenied refusal.now result }
 {

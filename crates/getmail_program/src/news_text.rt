@@ -22,9 +22,8 @@ ghost use Rattle.getmail_program.specs.News.{
   unnamed_line,
 };
 
-use getmail_setup::{Large, Part};
+use getmail_setup::{Large, Part, digest_of};
 use httpdate::{HttpDate, fmt_http_date};
-use mail_store::account_id;
 use mail_terms::cut_text;
 use run_memory::{Key, Telling, Times};
 use std::alloc::{AllocError, Global};
@@ -57,14 +56,14 @@ pub fn fault_key(part: &Part) -> Key
     ensures { result ≡ fault_key part.now }
 {
     let line = utf8_in(first_line(&part.text));
-    Key::new(account_id(line, 0, utf8_in(&part.place)).as_str())
+    Key::new(digest_of(line, utf8_in(&part.place)).as_str())
 }
 
 /// What a notice is known by: its text.
 pub fn notice_key(part: &Part) -> Key
     ensures { result ≡ notice_key part.now }
 {
-    Key::new(account_id(utf8_in(&part.text), 0, "").as_str())
+    Key::new(digest_of(utf8_in(&part.text), "").as_str())
 }
 
 /// A number.

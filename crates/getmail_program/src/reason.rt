@@ -12,13 +12,11 @@ use pop3_client::Asked;
 use std::alloc::{AllocError, Global};
 use trace::Said;
 
-/// Octets that follow each other.
+/// Two texts that follow each other.
 fn concat(alloc: Global, first: &[u8], second: &[u8]) -> Result<Vec<u8>, AllocError>
     ensures { IfOk result (λ text. text.items ≡ first.now ++ second.now) }
 {
-    let mut text = Vec::from_slice(alloc, first)?;
-    text.extend_from_slice(second)?;
-    Ok(text)
+    [first, second].concat(alloc)
 }
 
 /// Four texts that follow each other.
@@ -31,9 +29,7 @@ fn concat_four(
 ) -> Result<Vec<u8>, AllocError>
     ensures { IfOk result (λ text. text.items ≡ first.now ++ (second.now ++ (third.now ++ fourth.now))) }
 {
-    let end = concat(alloc, third, fourth)?;
-    let end = concat(alloc, second, &end)?;
-    concat(alloc, first, &end)
+    [first, second, third, fourth].concat(alloc)
 }
 
 /// The part of a conversation that was under way.

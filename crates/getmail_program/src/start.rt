@@ -49,8 +49,8 @@ fn errors_kept<'a>(journal: &'a Journal, reasons: &'a Reasons) -> Errors<'a, Kep
     }
 }
 
-/// What a run at a terminal or in a script says, and where: on standard error. Reasons are told to whoever is at a
-/// terminal, and to those who ask.
+/// What a run at a terminal or in a script says, and where: on standard error. Reasons are told at a
+/// terminal, and where they are asked for.
 fn errors_shown<'a>(
     words: &Words,
     err: Stderr,

@@ -1,11 +1,12 @@
 //! The lines of a report that are written while its session runs.
-ghost use Rattle.std.{
-  specs.{Prelude.{◌≡◌, ◌&&◌, ◌==◌, ℕ, false, not, true, List, [], IfOk}, String.string_bytes},
-  proofs.Common.{refl, ◌∙◌},
+ghost use Rattle.std.specs.{
+  Prelude.{◌≡◌, ◌&&◌, ◌==◌, ℕ, false, not, true, List, [], IfOk},
+  String.string_bytes,
 };
 ghost use Rattle.fetch_session.specs.Report.{is_deletion};
-ghost use Rattle.getmail_program.specs.Teller.{StartsTelling, HasLast, HasSameLinks, StaysClosed, WroteMore};
-ghost use Rattle.getmail_program.specs.Teller.{WroteText, early_text, has_last, wrote_both, wrote_nothing};
+ghost use Rattle.getmail_program.specs.Teller.{HasLast, HasSameLinks, HearsPlans, StartsTelling, StaysClosed};
+ghost use Rattle.getmail_program.specs.Teller.{WroteText};
+ghost use Rattle.getmail_program.specs.Teller.{early_text, heard_both, heard_nothing};
 
 use fetch_rules::{Settings, Step};
 use fetch_session::{Listener, ReportLine, explained_line, heading};
@@ -119,7 +120,7 @@ impl<'a, O: Write> Teller<'a, O> {
 }
 
 impl<'a, O: Write> Listener for Teller<'a, O> {
-    ghost hears = { λ a plans b. HasSameLinks a b × WroteMore O.contents a b × HasLast plans a b };
+    ghost hears = { HearsPlans O.contents };
 
     fn asks_why(&self) -> bool
         ensures { result ≡ (self.now.explains && not (self.now.verbose == 1)) }
@@ -138,11 +139,7 @@ impl<'a, O: Write> Listener for Teller<'a, O> {
         self.heard = lines.len();
     }
 
-    ghost hears_none = { λ a. ((refl, refl, refl), wrote_nothing O.contents a, refl) };
+    ghost hears_none = { heard_nothing O.contents };
 
-    ghost hears_on = { λ a b c ps qs p q. (
-      (q.0.0 ∙ p.0.0, q.0.1 ∙ p.0.1, q.0.2 ∙ p.0.2),
-      wrote_both O.contents a b c p.0.2 p.1 q.1,
-      has_last a b c ps qs p.2 q.2,
-    ) };
+    ghost hears_on = { heard_both O.contents };
 }

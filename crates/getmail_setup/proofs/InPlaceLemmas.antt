@@ -27,10 +27,10 @@ is_between P front text rest part end last r begins ends same is =
     )
 
 -- what holds of the image of each item holds of each item of the images
-pub all_mapped : {X Y : Type 0} (f : X → Y) (P : Y → Type 0) (xs : List X) → AllWithin (λ x. P (f x)) xs 0 (length xs)
+pub images_all : {X Y : Type 0} (f : X → Y) (P : Y → Type 0) (xs : List X) → AllWithin (λ x. P (f x)) xs 0 (length xs)
     → AllWithin P (map f xs) 0 (length (map f xs))
-all_mapped f P [] all = λ k d low high. absurd (omega (arith, high))
-all_mapped f P (x ∷ xs) all = λ k d low high.
+images_all f P [] all = λ k d low high. absurd (omega (arith, high))
+images_all f P (x ∷ xs) all = λ k d low high.
     let within = subst (λ n. k < n) (length-map (x ∷ xs) f) high in
     subst P (sym (get_or-map f (x ∷ xs) k x d within)) (all k x low within)
 
@@ -39,5 +39,5 @@ pub tells_among : {S : Type 0} (said : List ℕ → Bool → Type 0) (folder use
     (found : Option S) → IfSome found (λ path. IsFullList said folder username (bytes path))
     → IfNone found (AllWithin (λ name. HasNone said folder username (bytes name)) names 0 (length names))
     → TellsAmong said folder username (map bytes names) (option_map bytes found)
-tells_among said folder username bytes names None some none = all_mapped bytes (HasNone said folder username) names none
+tells_among said folder username bytes names None some none = images_all bytes (HasNone said folder username) names none
 tells_among said folder username bytes names (Some path) some none = some

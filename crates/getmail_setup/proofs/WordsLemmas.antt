@@ -16,12 +16,12 @@ unfolding clap_on_literals
 getmail_is_free = refl
 
 -- the rows of a parse are the matches of the words
-pub rows_are : (app : App) (words : List (List ℕ)) (matches : ArgMatches) → app ≡ getmail → HasMatchesOf app words matches
+pub getmail_rows : (app : App) (words : List (List ℕ)) (matches : ArgMatches) → app ≡ getmail → HasMatchesOf app words matches
     → rows_of (found_of matches) ≡ matches_of getmail words
-rows_are app words matches same has = (has (ap is_simple same ∙ getmail_is_simple)).0 ∙ ap (λ (a : App). matches_of a words) same
+getmail_rows app words matches same has = (has (ap is_simple same ∙ getmail_is_simple)).0 ∙ ap (λ (a : App). matches_of a words) same
 
 -- an error of a parse has a kind of the words' fault
-pub has_kind : (app : App) (words : List (List ℕ)) (error : Error) → app ≡ getmail
+pub getmail_kind : (app : App) (words : List (List ℕ)) (error : Error) → app ≡ getmail
     → (is_simple_and_free app ≡ true → HasKind (fault_of app words) error) → HasKind (fault_of getmail words) error
-has_kind app words error same has =
+getmail_kind app words error same has =
     subst (λ (a : App). HasKind (fault_of a words) error) same (has (ap is_simple_and_free same ∙ getmail_is_free))

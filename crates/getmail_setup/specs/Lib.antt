@@ -1,6 +1,7 @@
 pub mod Clock
 pub mod CommandLine
 pub mod Connecting
+pub mod Digest
 pub mod Failures
 pub mod InPlace
 pub mod Journal

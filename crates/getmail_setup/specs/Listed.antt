@@ -1,18 +1,17 @@
 -- The rows of a listing, and the messages over the size limit that they name.
 use Rattle.std.specs.{
   Prelude.{◌≡◌, ◌⊎◌, ◌==◌, ◌-◌, ◌++◌, ℕ, List, [], ◌∷◌, Option, None, Some, Result, Ok, Err, codes, length, nat_lt},
-  Prelude.{option_map, take, if◌then◌else◌},
+  Prelude.{Bool, false, true, IsSomeAnd, option_map, take, if◌then◌else◌},
   Char.is_ascii_whitespace,
   List.{filter_map, find, list_any, suffix_len},
 }
-use Rattle.mail_store.specs.FileName.{account_text}
 use Rattle.mail_terms.specs.Text.{lines_of_text}
 use Rattle.pop3_wire.specs.{
   Fields.{number_and_id, number_and_size},
   declared.{fault.WireFault.WireFault, note.Asked.{Asked, TheVariants.{Uidl, List as ListAsked}}},
   declared.note.Note.{Note, TheVariants.{Command, Body}},
 }
-use Rattle.getmail_setup.specs.declared.listed.{Large.Large, Listed.Listed}
+use Rattle.getmail_setup.specs.{Digest.digest_text, declared.listed.{Large.Large, Listed.Listed}}
 
 -- a row without blanks and what ends a line at its end
 abbrev pub without_end : List ℕ → List ℕ
@@ -71,7 +70,7 @@ large_size sizes number = option_map (λ row. row.1) (find (λ row. row.0 == num
 abbrev pub large_of : ℕ → List ℕ → Option ℕ → Option Large
 large_of number id None = None
 large_of number id (Some size) =
-    Some (record { number = number; size = size; key = account_text id 0 (codes "too large") })
+    Some (record { number = number; size = size; key = digest_text id (codes "too large") })
 
 abbrev pub large_for : List (ℕ × ℕ) → List ℕ → Result (ℕ × List ℕ) WireFault → Option Large
 large_for sizes numbers (Err fault) = None
@@ -85,3 +84,8 @@ large_in sizes numbers row = large_for sizes numbers (number_and_id (without_end
 abbrev pub AreLarge : Listed → List ℕ → List Large → Type 0
 AreLarge listed numbers large =
     large ≡ filter_map (large_in listed.sizes.items numbers) (lines_of_text listed.uids.items)
+
+-- the rows of messages over this limit are kept, or none are; none has come yet
+abbrev pub KeepsLarge : Bool → ℕ → Option Listed → Type 0
+KeepsLarge true limit listed = IsSomeAnd listed (IsFresh limit)
+KeepsLarge false limit listed = listed ≡ None

@@ -14,7 +14,10 @@ use Rattle.rc_file.specs.{
   Flags.{is_contradiction, overridden},
 }
 use Rattle.mail_store.specs.FileName.{account_text}
-use Rattle.getmail_setup.specs.declared.{setup.{Paths.Paths, Setup.Setup}, words.Words.Words}
+use Rattle.getmail_setup.specs.{
+  Digest.digest_text,
+  declared.{setup.{Paths.Paths, Setup.Setup}, words.Words.Words},
+}
 
 -- the path of a file of a folder, with one '/' between them
 abbrev pub joined : List ℕ → List ℕ → List ℕ
@@ -90,13 +93,13 @@ pub record AreFor (home : Option (List ℕ)) (words : Words) (settings : Setting
   pub lock_is : string_bytes paths.lock ≡ account_path folder (codes "lock-") settings
   pub rests_is : string_bytes paths.rests ≡ string_bytes paths.record ++ codes ".rest"
 
--- a path is in the folder that the words name, and its name has the digits of the rc file's path
+-- a path is in the folder that the words name, and its name has the digest of the rc file's path
 pub record IsToldPath (home : Option (List ℕ)) (words : Words) (path : List ℕ) : Type 0 where
   pub folder : List ℕ
   pub folder_is : folder_path home (option_map string_bytes words.dir) ≡ Some folder
   pub rc : List ℕ
   pub rc_is : rc_path home folder (option_map string_bytes words.rcfile) ≡ Some rc
-  pub is : path ≡ joined folder (codes "told-" ++ account_text rc 0 [])
+  pub is : path ≡ joined folder (codes "told-" ++ digest_text rc [])
 
 -- a path is that of the rc file that the words name
 pub record IsRcPath (home : Option (List ℕ)) (words : Words) (path : List ℕ) : Type 0 where

@@ -4,13 +4,17 @@ use Rattle.std.specs.{
   Prelude.{Err, None, Ok, Option, Some, Result, length, min, nat_le, nat_lt, slice_get, unwrap_or, if◌then◌else◌},
   Fmt.decimal,
 }
+use Rattle.rc_file.specs.declared.settings.Settings.{Settings}
 use Rattle.pop3_wire.specs.{
   Fields.number_and_size,
   declared.fault.WireFault.WireFault,
   declared.note.Asked.{Asked, TheVariants.{Stat, Uidl, List as ListAsked, Retr}},
   declared.note.Note.{Note, TheVariants.{Command, Count, Body}},
 }
-use Rattle.getmail_setup.specs.{Listed.without_end, declared.progress.Progress.Progress}
+use Rattle.getmail_setup.specs.{
+  Listed.without_end,
+  declared.{errors.Errors.Errors, progress.Progress.Progress, shown_wire.ShownWire.ShownWire},
+}
 
 -- a number of tenths: with a digit after the point below ten
 abbrev pub in_tenths : ℕ → List ℕ
@@ -105,3 +109,15 @@ is_due_line p asked = false
 abbrev pub due_after : Progress → Option Asked → ℕ
 due_after p (Some (Retr number)) = if nat_le p.due p.octets then min (p.octets + 65536) (2 ^ 64 - 1) else p.due
 due_after p asked = p.due
+
+-- a link shows here how far a fetch is of which nothing is known yet
+pub record IsShownOn {W S : Type 0} (screen : Option S) (wire : W) (shown : ShownWire W S) : Type 0 where
+  pub inner : shown.wire ≡ wire
+  pub place : shown.screen ≡ screen
+  pub progress : KnowsNothing shown.progress
+  pub unwritten : shown.is_shown ≡ false
+
+-- where the line is shown, if it is and a report is wanted
+abbrev pub screen_for : {E : Type 0} → Errors E → Settings → Option E
+screen_for errors settings =
+    if errors.shows_progress && nat_lt 0 settings.verbose then Some errors.err.writer else None

@@ -1,13 +1,14 @@
 //! The connection to the server: over TCP, or to a Unix socket on which a tunnel listens.
 ghost use Rattle.std.specs.{
-  Prelude.{◌≡◌, ◌↔◌, ℕ, List, IfErr, IfNone, IfOk, IfSome, IsFalse, OnErr, OnOk, false, true, length},
+  Prelude.{◌≡◌, ◌↔◌, ℕ, List, IfErr, IfNone, IfOk, IfSome, IsFalse, None, OnErr, OnOk, Some, false, true, length},
+  Prelude.if◌then◌else◌,
   Duration.as_nanos,
   List.AllWithin,
   Net.Socket.socket_ip,
   String.string_bytes,
   declared.net.{ip_addr.IpAddr.IpAddr, socket_addr.SocketAddr.SocketAddr},
 };
-ghost use Rattle.trace.specs.Wire.{Hides};
+ghost use Rattle.trace.specs.Wire.{IsTraced};
 ghost use Rattle.getmail_setup.specs.{
   Connecting.{HasLimits, IsCanonical, IsLoopback, IsUnconnected, Refuses, TakesFirst, connect_limit},
   Places.{account_name, is_local, is_socket, peer_name},
@@ -322,7 +323,8 @@ pub fn link_over<'a, E>(
     peer: Peer,
     errors: &Errors<'a, E>,
 ) -> Link<'a>
-    ensures { Hides result peer.password.items }
+    ensures { IsTraced errors.now.reasons.now.link.trace.lines
+        (if errors.now.says_why then Some errors.now.reasons.now.talk else None) (Some peer.password.items) result }
 {
     let reasons = errors.reasons;
     let Peer { name, password } = peer;

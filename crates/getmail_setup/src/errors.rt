@@ -1,9 +1,10 @@
 //! What a run writes to standard error before its session, and what it keeps of refused calls.
-ghost use Rattle.std.specs.Prelude.{◌≡◌, ◌≤◌, ◌&&◌, ℕ, List, None, Some, if◌then◌else◌, nat_lt, option_map};
+ghost use Rattle.std.specs.Prelude.{◌≡◌, ◌≤◌, ℕ, List, option_map};
 ghost use Rattle.getmail_setup.specs.{
   Failures.{IsToldCause, IsToldUnlocked, TellsFailure, account_front, cause_line, network_warning, start_hint},
   Failures.status_of,
   Output.Puts,
+  Progress.screen_for,
 };
 
 use crate::connection::is_near;
@@ -75,8 +76,7 @@ impl<'a, E> Errors<'a, E> {
 impl<'a, E: Write + Copy> Errors<'a, E> {
     /// Where the line of progress is shown, if it is and a report is wanted.
     pub fn screen(&self, settings: &Settings) -> Option<E>
-        ensures { result ≡ (if self.now.shows_progress && nat_lt 0 settings.now.verbose
-            then Some self.now.err.writer else None) }
+        ensures { result ≡ screen_for self.now settings.now }
     {
         if self.shows_progress && settings.verbose > 0 {
             Some(self.err.writer())

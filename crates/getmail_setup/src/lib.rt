@@ -3,6 +3,7 @@
 
 mod clock;
 mod connection;
+mod digest;
 mod errors;
 mod failure;
 mod in_place;
@@ -21,6 +22,7 @@ pub use clock::second_of;
 pub use connection::{
     Connection, Link, Peer, SILENT, account_name, connect, is_near, link_over, peer_of,
 };
+pub use digest::digest_of;
 pub use errors::{Errors, Reasons, fail, tell_reason, warn_of_network};
 pub use failure::{Failure, OUT_OF_MEMORY, explain, failure_of, tell};
 pub use in_place::{LookAt, OnMachine, other_list};

@@ -5,8 +5,8 @@ ghost use Rattle.std.specs.{
   List.filter_map,
   Str.IsUtf8,
 };
-ghost use Rattle.mail_store.specs.FileName.{account_text};
 ghost use Rattle.mail_terms.specs.Text.{lines_of_text};
+ghost use Rattle.getmail_setup.specs.Digest.{digest_text};
 ghost use Rattle.getmail_setup.specs.Listed.{
   BeginsListing,
   NotesRow,
@@ -19,7 +19,7 @@ ghost use Rattle.getmail_setup.specs.Listed.{
   without_end,
 };
 
-use mail_store::account_id;
+use crate::digest::digest_of;
 use mail_terms::cut_text;
 use pop3_wire::{Asked, Note, read_scan, read_uid};
 use run_memory::Key;
@@ -47,9 +47,9 @@ pub struct Listed {
 /// The key of an id. No line of a fault has a NUL.
 fn key_of(uid: &[u8]) -> Key
     requires { IsUtf8 uid.now }
-    ensures { result ≡ account_text uid.now 0 (codes "too large") }
+    ensures { result ≡ digest_text uid.now (codes "too large") }
 {
-    Key::new(account_id(str::from_utf8(uid).unwrap_or(""), 0, "too large").as_str())
+    Key::new(digest_of(str::from_utf8(uid).unwrap_or(""), "too large").as_str())
 }
 
 /// A row of a listing, without blanks and what ends a line at its end.

@@ -14,6 +14,7 @@ ghost use Rattle.getmail_setup.specs.{
 };
 
 use crate::connection::is_socket;
+use crate::digest::digest_of;
 use crate::errors::{Errors, tell_reason};
 use crate::failure::{Failure, failure_of};
 use crate::journal::Subject;
@@ -293,8 +294,8 @@ fn places<'a>(
     })
 }
 
-/// The path of the file that keeps what unattended runs with an rc file told. Its name has the digits of an account
-/// whose server is that file's path, with port 0, which no account has.
+/// The path of the file that keeps what unattended runs with an rc file told. Its name has the digest of that file's
+/// path.
 pub fn told_path<'a>(
     alloc: Global,
     home: Option<&str>,
@@ -305,7 +306,7 @@ pub fn told_path<'a>(
 {
     let folder = folder(alloc, home, words.dir.as_deref())?;
     let path = rc_file(alloc, home, folder.as_str(), words.rcfile.as_deref())?;
-    let digest = account_id(path.as_str(), 0, "");
+    let digest = digest_of(path.as_str(), "");
     let digest = digest.as_str();
     let name = format!(in alloc; "told-{digest}")?;
     Ok(joined(alloc, folder.as_str(), name.as_str())?)

@@ -1,6 +1,6 @@
 //! A link that shows progress on a terminal.
-ghost use Rattle.std.specs.Prelude.{◌≡◌, IsSomeAnd, option_map};
-ghost use Rattle.getmail_setup.specs.Listed.{IsFresh};
+ghost use Rattle.std.specs.Prelude.{◌≡◌, IsSomeAnd, None, option_map};
+ghost use Rattle.getmail_setup.specs.{Listed.IsFresh, Progress.IsShownOn};
 
 use crate::listed::Listed;
 use crate::progress::Progress;
@@ -31,7 +31,8 @@ fn write_line<S: Write>(alloc: Global, screen: &mut S, text: &str) -> io::Result
 impl<W: Wire, S: Write> ShownWire<W, S> {
     /// A link around this one that shows how far the fetch is.
     pub fn new(alloc: Global, wire: W, screen: Option<S>) -> ShownWire<W, S>
-        ensures { result.wire ≡ wire }
+        ensures shown { IsShownOn screen wire result }
+        ensures listed { result.listed ≡ None }
     {
         ShownWire {
             wire,
@@ -45,7 +46,7 @@ impl<W: Wire, S: Write> ShownWire<W, S> {
 
     /// Keeps the rows of the listing that are about messages over a size limit.
     pub fn keep_listed(&mut self, limit: u64)
-        ensures wire { self.new.wire ≡ self.old.wire }
+        ensures same { self.new ≡ record self.old { listed = self.new.listed } }
         ensures listed { IsSomeAnd self.new.listed (IsFresh limit) }
     {
         self.listed = Some(Listed::new(self.alloc, limit));
@@ -61,7 +62,11 @@ impl<W: Wire, S: Write> ShownWire<W, S> {
     /// Takes note of a part of the conversation, and shows how far the fetch is, if it is time to. At the end
     /// of a message the line is wiped: a line of the report may follow.
     fn show(&mut self, part: Note<'_>)
-        ensures { self.new.wire ≡ self.old.wire }
+        ensures same { self.new ≡ record self.old {
+          screen = self.new.screen;
+          progress = self.new.progress;
+          is_shown = self.new.is_shown;
+        } }
     {
         if let Some(screen) = &mut self.screen {
             self.progress.note(part);
@@ -79,7 +84,7 @@ impl<W: Wire, S: Write> ShownWire<W, S> {
 
     /// Wipes the line, so that something else can be written to the terminal.
     pub fn wipe(&mut self)
-        ensures { self.new.wire ≡ self.old.wire }
+        ensures same { self.new ≡ record self.old { screen = self.new.screen; is_shown = self.new.is_shown } }
     {
         if let Some(screen) = &mut self.screen {
             if self.is_shown {

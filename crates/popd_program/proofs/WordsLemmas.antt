@@ -19,14 +19,14 @@ unfolding clap_on_literals
 popd_is_free = refl
 
 -- the rows of a parse are the matches of the words
-pub rows_are : (app : App) (words : List (List ℕ)) (matches : ArgMatches) → app ≡ popd → HasMatchesOf app words matches
+pub popd_rows : (app : App) (words : List (List ℕ)) (matches : ArgMatches) → app ≡ popd → HasMatchesOf app words matches
     → rows_of (found_of matches) ≡ matches_of popd words
-rows_are app words matches same has = rw same at (has (ap is_simple same ∙ popd_is_simple)).0
+popd_rows app words matches same has = rw same at (has (ap is_simple same ∙ popd_is_simple)).0
 
 -- an error of a parse has a kind of the words' fault
-pub has_kind : (app : App) (words : List (List ℕ)) (error : Error) → app ≡ popd
+pub popd_kind : (app : App) (words : List (List ℕ)) (error : Error) → app ≡ popd
     → (is_simple_and_free app ≡ true → HasKind (fault_of app words) error) → HasKind (fault_of popd words) error
-has_kind app words error same has = rw same at (has (ap is_simple_and_free same ∙ popd_is_free))
+popd_kind app words error same has = rw same at (has (ap is_simple_and_free same ∙ popd_is_free))
 
 -- a number that was read from its text, or the greatest if there is no text
 pub numbers : {E : Type 0} (G : List ℕ → Result ℕ E → Type 0) (text : Option (List ℕ)) (read : Option ℕ) (count : ℕ)

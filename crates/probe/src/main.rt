@@ -2,6 +2,7 @@
 //! `tests/probe`, which watch its system calls and compare what it prints.
 #![tactic(auto)]
 
+mod calls;
 mod conversation;
 mod judging;
 mod mbox;
@@ -15,7 +16,7 @@ use std::env;
 use std::process::ExitCode;
 
 fn tell_usage(rt: &HostRuntime) -> Result<()> {
-    println!(rt; "usage: probe client, or judge FILE, or session|read COUNT,")?;
+    println!(rt; "usage: probe client, or judge|machine|memory FILE, or session|read COUNT,")?;
     println!(rt; "       or held|deliver|rewrite|append|blocks|sweep|texts|quote PATH COUNT")?;
     Ok(())
 }
@@ -31,12 +32,13 @@ fn use_store(rt: &HostRuntime, call: &str, path: &str, count: u32) -> Result<()>
     }
 }
 
-/// Makes the calls of this name on a record.
+/// Makes the calls of this name on a record or a file of lists.
 fn use_record(rt: &HostRuntime, call: &str, subject: &str) -> Result<()> {
     match call {
         "session" => record::time_session(rt, subject.parse()?),
         "read" => record::time_read(rt, subject.parse()?),
         "judge" => judging::judge(rt, subject),
+        "machine" | "memory" => calls::play_lists(rt, call, subject),
         _ => tell_usage(rt),
     }
 }

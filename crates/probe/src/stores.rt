@@ -8,6 +8,8 @@ use folder_store::{HostFile, HostFolder, HostMaildir, ProcessMark};
 use mail_store::{FlatFile, MaildirDisk, account_id, deliver, file_stem, held};
 use mail_terms::{Listing, UidRows, is_legal_id};
 use std::alloc::Global;
+use std::rt::Files;
+use std::time::Clock;
 use system_calls::{Refusals, System};
 
 /// The id of message `number`, as the driver names its files.
@@ -86,12 +88,23 @@ fn use_maildir<D: MaildirDisk + Drop>(
     }
 }
 
-/// Makes the calls of this name on the Maildir at a path.
-pub fn use_maildir_at(rt: &HostRuntime, call: &str, path: &str, count: u32) -> Result<()> {
+/// Makes the calls of this name on the Maildir at a path of any file system, of which nothing is known.
+fn use_maildir_over<R: Files + Clock + AllocGlobal + Clone + Drop>(
+    rt: &HostRuntime,
+    files: &R,
+    call: &str,
+    path: &str,
+    count: u32,
+) -> Result<()> {
     let mark = mark_of(rt)?;
     let refusals = Refusals::new(rt.alloc(), None);
-    let system = System::new(rt, &refusals);
+    let system = System::new(files, &refusals);
     use_maildir(rt, call, HostMaildir::at(&system, path, mark), count)
+}
+
+/// Makes the calls of this name on the Maildir at a path.
+pub fn use_maildir_at(rt: &HostRuntime, call: &str, path: &str, count: u32) -> Result<()> {
+    use_maildir_over(rt, rt, call, path, count)
 }
 
 /// Replaces a file by a text, appends it and cuts that off again.

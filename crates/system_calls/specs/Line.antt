@@ -48,3 +48,7 @@ abbrev pub TellsRefusal : {E : Type 0} → (E → Option (List ℕ)) → E → E
 TellsRefusal contents old new call path =
     (reason : List ℕ) × HasTraceLine contents old new (codes "trace: ")
     (call ++ (codes " " ++ (path ++ (codes ": " ++ reason))))
+
+-- a text has the path of what was refused, and a reason, as a line shows them
+abbrev pub IsRefusalText : List ℕ → List ℕ → Type 0
+IsRefusalText path text = (reason : List ℕ) × IsTraceLine [] (path ++ (codes ": " ++ reason)) (text ++ codes "\n")

@@ -4,12 +4,14 @@
 
 mod line;
 mod noted;
+mod opened;
 mod refusal;
 mod refusals;
 mod system;
 
 pub use line::{line_text, shown, write_line};
 pub use noted::Noted;
+pub use opened::OpenAt;
 pub use refusal::{Denial, Refusal, refusal_text};
 pub use refusals::Refusals;
 pub use system::System;

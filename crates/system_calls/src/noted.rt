@@ -1,5 +1,5 @@
-//! An open file, folder or connection whose refused calls are shown.
-ghost use Rattle.std.specs.Prelude.{◌≡◌, Err, IfErr, IfOk, IfSome, IsSomeAnd, Ok, false, string_bytes, true};
+//! An open file, folder or connection whose refused calls are shown and kept.
+ghost use Rattle.std.specs.Prelude.{◌≡◌, IfSome, IsSomeAnd, string_bytes};
 
 use crate::refusal::Denial;
 use crate::refusals::Refusals;
@@ -7,33 +7,19 @@ use std::alloc::Global;
 use std::fs::{Metadata, OpenFile};
 use std::io::{self, Read, Seek, SeekFrom, Write};
 
-/// An open file, folder or connection that passes each call on, and shows those that are refused.
+/// An open file, folder or connection that passes each call on. Those that are refused are shown, and kept.
 #[derive(Drop)]
 pub struct Noted<'a, S> {
     inner: S,
     alloc: Global,
     path: Option<String>,
     refusals: &'a Refusals,
-    /// Whether what is refused is kept too.
-    keeps: bool,
 }
 
 impl<'a, S> Noted<'a, S> {
-    /// What is open at this path, or the connection of this name; what is refused to it is kept too. Without memory
-    /// for the path, none is known.
+    /// What is open at this path, or the connection of this name. Without memory for the path, none is known.
     pub fn new(alloc: Global, inner: S, path: &str, refusals: &'a Refusals) -> Noted<'a, S>
-        ensures inner { (result.inner ≡ inner) × (result.keeps ≡ true) }
-        ensures path { IfSome result.path (λ own. string_bytes own ≡ path.now) }
-    {
-        Noted {
-            keeps: true,
-            ..Noted::shown(alloc, inner, path, refusals)
-        }
-    }
-
-    /// The same, but what is refused to it is only shown.
-    pub fn shown(alloc: Global, inner: S, path: &str, refusals: &'a Refusals) -> Noted<'a, S>
-        ensures inner { (result.inner ≡ inner) × (result.keeps ≡ false) }
+        ensures inner { result.inner ≡ inner }
         ensures path { IfSome result.path (λ own. string_bytes own ≡ path.now) }
     {
         Noted {
@@ -41,24 +27,11 @@ impl<'a, S> Noted<'a, S> {
             alloc,
             path: String::from_str(alloc, path).ok(),
             refusals,
-            keeps: false,
         }
     }
 
-    /// The answer of a call of this, with its path.
-    pub fn at<T>(&self, answer: io::Result<T>) -> Result<T, Denial>
-        ensures done { IfOk result (λ value. answer ≡ Ok value) }
-        ensures denied { IfErr result (λ denial. (answer ≡ Err denial.error) × IfSome denial.path (λ own.
-            IsSomeAnd self.now.path (λ path. string_bytes own ≡ string_bytes path))) }
-    {
-        match answer {
-            Ok(value) => Ok(value),
-            Err(error) => Err(self.denied(error)),
-        }
-    }
-
-    /// An error about this, with its path.
-    pub fn denied(&self, error: io::Error) -> Denial
+    // An error about this, with its path.
+    fn denied(&self, error: io::Error) -> Denial
         ensures error { result.error ≡ error }
         ensures path { IfSome result.path (λ own.
             IsSomeAnd self.now.path (λ path. string_bytes own ≡ string_bytes path)) }
@@ -74,11 +47,9 @@ impl<'a, S> Noted<'a, S> {
     {
         if let Err(error) = &answer {
             if let Some(path) = &self.path {
-                self.refusals.show(call, path.as_str(), error);
+                self.refusals.trace.show(call, path.as_str(), error);
             }
-            if self.keeps {
-                let _ = self.refusals.kept(self.at(Err::<(), io::Error>(*error)));
-            }
+            let _ = self.refusals.kept(Err::<(), Denial>(self.denied(*error)));
         }
         answer
     }

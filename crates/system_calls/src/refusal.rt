@@ -1,11 +1,11 @@
 //! Why a call isn't done, and the line of a call that the system refused.
 ghost use Rattle.std.specs.{
-  Prelude.{◌≡◌, ◌++◌, IfNone, IfOk, IfSome, None, OnOk, Some, codes},
+  Prelude.{◌≡◌, ◌↔◌, ◌++◌, IfNone, IfOk, IfSome, IsTrue, None, OnOk, Some, codes},
   String.string_bytes,
-  IoError.error_kind,
+  IoError.{error_kind, raw_os_error},
 };
 ghost use Rattle.std.specs.declared.io.ErrorKind.TheVariants.{OutOfMemory};
-ghost use Rattle.system_calls.specs.Line.{TellsRefusal};
+ghost use Rattle.system_calls.specs.Line.{IsRefusalText, TellsRefusal};
 
 use crate::line::{shown, write_line};
 use std::alloc::{AllocError, AllocFailed, Global};
@@ -28,7 +28,9 @@ pub struct Denial {
 
 impl Refusal {
     /// The path and the reason, as a trace shows them.
-    pub fn text(&self, alloc: Global) -> Result<Vec<u8>, AllocError> {
+    pub fn text(&self, alloc: Global) -> Result<Vec<u8>, AllocError>
+        ensures { IfOk result (λ text. IsRefusalText (string_bytes self.now.path) text.items) }
+    {
         let Refusal { path, error } = self;
         let words = format!(in alloc; "{error}")?;
         let reason = reason(words.as_str());
@@ -42,6 +44,7 @@ impl Denial {
     pub fn of(alloc: Global, path: &str, error: io::Error) -> Denial
         ensures error { result.error ≡ error }
         ensures path { IfSome result.path (λ own. string_bytes own ≡ path.now) }
+        ensures memory { error_kind error ≡ ErrorKind.OutOfMemory → raw_os_error error ≡ None → result.path ≡ None }
     {
         let path = if is_want_of_memory(&error) {
             None
@@ -67,7 +70,10 @@ impl Denial {
     }
 
     /// Whether it has words of its own in place of the system's.
-    pub fn is_own(&self) -> bool {
+    pub fn is_own(&self) -> bool
+        ensures { IsTrue result ↔ (error_kind self.now.error ≡ ErrorKind.Other)
+            × (raw_os_error self.now.error ≡ None) }
+    {
         self.error.kind() == ErrorKind::Other && self.error.raw_os_error().is_none()
     }
 
@@ -112,7 +118,9 @@ impl<T: Drop> From<AllocFailed<T>> for Denial {
 }
 
 /// Whether memory ran out in this process: the system didn't refuse anything.
-pub(crate) fn is_want_of_memory(error: &io::Error) -> bool {
+pub(crate) fn is_want_of_memory(error: &io::Error) -> bool
+    ensures { IsTrue result ↔ (error_kind error.now ≡ ErrorKind.OutOfMemory) × (raw_os_error error.now ≡ None) }
+{
     error.kind() == ErrorKind::OutOfMemory && error.raw_os_error().is_none()
 }
 

@@ -1,45 +1,44 @@
 //! What is refused to a device or a connection.
-ghost use Rattle.std.specs.Prelude.{◌≡◌, Err, IfErr, IfOk, IfSome, IsErrAnd, Ok, string_bytes};
+ghost use Rattle.std.specs.{
+  IoError.error_kind,
+  Prelude.{◌≡◌, Err, IfErr, IfOk, IfSome, IsErrAnd, Ok, string_bytes},
+};
 
 use crate::refusal::{Denial, Refusal, is_want_of_memory, tell_refusal};
 use std::alloc::Global;
 use std::cell::Cell;
 use std::io::{self, ErrorKind, Stderr};
 
-/// What was refused last to one device or connection, until it is asked for; none if memory ran out. If there is a
-/// trace, it gets a line for each call that the system refuses, at once: `trace: `, the name of the call, the path,
-/// and the system's reason. A line that can't be written changes nothing.
+/// Where the calls that the system refuses are shown, if they are: a line for each, at once: `trace: `, the name of the
+/// call, the path, and the system's reason. A line that can't be written changes nothing.
+#[derive(Clone, Copy)]
+pub struct CallTrace {
+    pub(crate) alloc: Global,
+    lines: Option<Stderr>,
+}
+
+/// What was refused last to one device or connection, until it is asked for; none if memory ran out.
 #[derive(Drop)]
 pub struct Refusals {
-    alloc: Global,
-    trace: Option<Stderr>,
+    pub(crate) trace: CallTrace,
     last: Cell<Option<Refusal>>,
 }
 
-impl Refusals {
-    /// Nothing was refused yet.
-    pub fn new(alloc: Global, trace: Option<Stderr>) -> Refusals {
-        Refusals {
-            alloc,
-            trace,
-            last: Cell::new(None),
-        }
-    }
-
-    /// What gets the lines of the trace, if there is one.
-    pub fn trace(&self) -> Option<Stderr> {
-        self.trace
-    }
-
+impl CallTrace {
     /// Shows a call that the system refused.
     pub(crate) fn show(&self, call: &str, path: &str, error: &io::Error) {
-        if let (Some(mut trace), false) = (self.trace, is_want_of_memory(error)) {
-            let _ = tell_refusal(self.alloc, &mut trace, call, path, error);
+        if let (Some(mut lines), false) = (self.lines, is_want_of_memory(error)) {
+            let _ = tell_refusal(self.alloc, &mut lines, call, path, error);
         }
     }
 
     /// The answer of a call of the system, which is shown if it is a refusal.
-    pub fn asked<T>(&self, call: &str, path: &str, answer: io::Result<T>) -> Result<T, Denial>
+    pub(crate) fn asked<T>(
+        &self,
+        call: &str,
+        path: &str,
+        answer: io::Result<T>,
+    ) -> Result<T, Denial>
         ensures done { IfOk result (λ value. answer ≡ Ok value) }
         ensures denied { IfErr result (λ denial. (answer ≡ Err denial.error)
             × IfSome denial.path (λ own. string_bytes own ≡ path.now)) }
@@ -51,6 +50,37 @@ impl Refusals {
                 Err(Denial::of(self.alloc, path, error))
             }
         }
+    }
+}
+
+impl Refusals {
+    /// Nothing was refused yet.
+    pub fn new(alloc: Global, trace: Option<Stderr>) -> Refusals
+        ensures { result.trace.lines ≡ trace }
+    {
+        Refusals {
+            trace: CallTrace {
+                alloc,
+                lines: trace,
+            },
+            last: Cell::new(None),
+        }
+    }
+
+    /// What gets the lines of the trace, if there is one.
+    pub fn trace(&self) -> Option<Stderr>
+        ensures { result ≡ self.now.trace.lines }
+    {
+        self.trace.lines
+    }
+
+    /// The answer of a call of the system, which is shown if it is a refusal.
+    pub fn asked<T>(&self, call: &str, path: &str, answer: io::Result<T>) -> Result<T, Denial>
+        ensures done { IfOk result (λ value. answer ≡ Ok value) }
+        ensures denied { IfErr result (λ denial. (answer ≡ Err denial.error)
+            × IfSome denial.path (λ own. string_bytes own ≡ path.now)) }
+    {
+        self.trace.asked(call, path, answer)
     }
 
     /// The answer of a device's call. Why it was refused is kept.
@@ -79,8 +109,10 @@ impl Refusals {
     }
 
     /// An error for something that the system would grant, with the reason in words. It is kept.
-    pub fn refuse(&self, path: &str, words: &str) -> io::Error {
-        let denial = Denial::because(self.alloc, path, words);
+    pub fn refuse(&self, path: &str, words: &str) -> io::Error
+        ensures { error_kind result ≡ ErrorKind.Other }
+    {
+        let denial = Denial::because(self.trace.alloc, path, words);
         let error = denial.error();
         self.last.set(denial.into_refusal());
         error

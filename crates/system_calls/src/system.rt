@@ -1,7 +1,7 @@
 //! The machine's file system, whose refused calls are shown.
 ghost use Rattle.std.specs.Prelude.{◌≡◌, ◌++◌, Err, IfErr, IfOk, IfSome, Ok, codes, string_bytes};
 
-use crate::noted::Noted;
+use crate::opened::OpenAt;
 use crate::refusal::Denial;
 use crate::refusals::Refusals;
 use std::alloc::Global;
@@ -56,18 +56,19 @@ impl<'a, R: Files + AllocGlobal> System<'a, R> {
     }
 
     /// Opens a file or a folder to read it.
-    pub fn open(&self, path: &str) -> Result<Noted<'a, R::File>, Denial> {
-        self.opened(path, fs::open(self.rt, path))
+    pub fn open(&self, path: &str) -> Result<OpenAt<R::File>, Denial> {
+        self.open_with(OpenOptions::new().read(true), path)
     }
 
     /// Opens a file in another way.
-    pub fn open_with(&self, how: &OpenOptions, path: &str) -> Result<Noted<'a, R::File>, Denial> {
-        self.opened(path, how.open(self.rt, path))
-    }
-
-    fn opened(&self, path: &str, file: io::Result<R::File>) -> Result<Noted<'a, R::File>, Denial> {
-        let file = self.asked("open", path, file)?;
-        Ok(Noted::shown(self.alloc(), file, path, self.refusals))
+    pub fn open_with(&self, how: &OpenOptions, path: &str) -> Result<OpenAt<R::File>, Denial> {
+        let own = String::from_str(self.alloc(), path)?;
+        let inner = self.asked("open", path, how.open(self.rt, path))?;
+        Ok(OpenAt {
+            inner,
+            path: own,
+            trace: self.refusals.trace,
+        })
     }
 
     /// Gives a file another name.

@@ -2,5 +2,6 @@ mod EndlessLemmas
 mod Losses
 mod MemoryFiles
 mod MemoryMail
+mod MemorySystem
 mod OddNames
 mod PartLemmas

@@ -3,7 +3,9 @@
 ghost use Rattle.std.specs.Prelude.{◌≡◌, ◌≢◌, ◌<◌, ◌≤◌, ◌++◌, ℕ, [], ◌∷◌, length, map, slice_index_or, string_bytes};
 ghost use Rattle.std.specs.Prelude.{HoldsAt, IfErr, IfNone, IfOk, IfSome, IsOk, OnErr, OnOk, option_map, take, true};
 ghost use Rattle.mail_store.specs.{Fault.IsDeviceFault, DiskCalls.{appended, cut, flushed}, Durable.{IsLeft, secured}};
+ghost use Rattle.std.specs.Option.{is_some};
 ghost use Rattle.folder_store.specs.{
+  Under.{after, outside},
   FileFolder.{Makes, find, placed, put_in, with_blob, FlushesNames, MeasuresFile, ReadsPiece, TellsFileSize},
   PowerLoss.{Loses, left_under},
 };
@@ -84,6 +86,13 @@ fn place_of<T>(named: &[(String, T)], name: &str) -> Option<usize>
         }
     }
     None
+}
+
+/// Whether a name begins with a text.
+fn is_under(front: &str, name: &str) -> bool
+    ensures { result ≡ is_some (after front.now name.now) }
+{
+    name.as_bytes().starts_with(front.as_bytes())
 }
 
 /// The file of this name, if there is one.
@@ -297,6 +306,13 @@ impl MemoryFolder {
             }
             Err(_) => Err(StoreFault::Refused),
         }
+    }
+
+    /// Flushes the names that begin with a text.
+    pub(crate) fn flush_names_under(&mut self, front: &str)
+        ensures { self.new ≡ record self.old { older = outside front.now self.old.older } }
+    {
+        self.older.retain(|link| !is_under(front, link.0.as_str()));
     }
 
     /// Gives the file of a name other bytes.

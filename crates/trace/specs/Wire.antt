@@ -11,7 +11,8 @@ use Rattle.pop3_wire.specs.declared.note.{
 use Rattle.trace.specs.{
   Command.{most_shown, shown_command},
   Shown.{ComesAfter, IsShown},
-  declared.{masking.Shown.Shown, talk.Spoken.{Spoken, TheVariants.{Command as SpokenCommand, Answer, Row, End}}},
+  declared.{masking.Shown.Shown, talk.Talk.Talk},
+  declared.talk.Spoken.{Spoken, TheVariants.{Command as SpokenCommand, Answer, Row, End}},
   declared.wire.{Trace.Trace, TracedWire.TracedWire},
 }
 use Rattle.system_calls.specs.Line.{HasTraceLine}
@@ -26,9 +27,21 @@ AddsTraceLine contents old new mark octets = ⊥
 abbrev pub hidden_in : {E : Type 0} → Trace E → Option (List ℕ)
 hidden_in trace = option_map (λ password. password.items) trace.mask.password
 
--- a link hides this password, if anything of it is shown or kept
-abbrev pub Hides : {W E : Type 0} → TracedWire W E → List ℕ → Type 0
-Hides link password = MatchOption link.trace (Unit {0}) (λ trace. hidden_in trace ≡ Some password)
+-- nothing was heard yet of a conversation that is shown here and kept there
+pub record BeginsTrace {E : Type 0} (err : Option E) (talk : Option Talk) (password : Option (List ℕ))
+    (trace : Trace E) : Type 0 where
+  pub shown : trace.err ≡ err
+  pub kept : option_map (λ talk. talk.now) trace.talk ≡ talk
+  pub hides : hidden_in trace ≡ password
+  pub moment : trace.mask.moment ≡ record { to_login = false; has_sent = false }
+  pub asked : trace.asked ≡ None
+  pub lines : trace.lines ≡ 0
+  pub octets : trace.octets ≡ 0
+
+-- a link is traced if there is a writer or a place for what is said, and this password is hidden
+abbrev pub IsTraced : {W E : Type 0} → Option E → Option Talk → Option (List ℕ) → TracedWire W E → Type 0
+IsTraced err talk password link =
+    MatchOption link.trace ((err ≡ None) × (talk ≡ None)) (λ trace. BeginsTrace err talk password trace)
 
 -- more of a body came: its lines and its octets are counted, if there is a writer
 abbrev pub Counts : {E : Type 0} → Trace E → List ℕ → ℕ → Trace E → Type 0

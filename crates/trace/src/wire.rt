@@ -1,6 +1,7 @@
 //! A link that is traced.
 ghost use Rattle.std.specs.Prelude.{◌≡◌, ◌-◌, ℕ, List, Some, IfOk, IsSome, OnOk, codes, option_map};
-ghost use Rattle.trace.specs.Wire.{AddsTraceLine, Counts, HearsPart, Hides, IsRowOf, ShowsHeard, ShowsPart, count_text};
+ghost use Rattle.trace.specs.Wire.{AddsTraceLine, Counts, HearsPart, IsRowOf, IsTraced, ShowsHeard, ShowsPart};
+ghost use Rattle.trace.specs.Wire.{count_text};
 
 use crate::command::{cut, shown_command};
 use crate::masking::Mask;
@@ -164,7 +165,8 @@ impl<'a, W: Wire, E: Write + Drop> TracedWire<'a, W, E> {
         talk: Option<&'a Talk>,
     ) -> TracedWire<'a, W, E>
         ensures wire { result.wire ≡ wire }
-        ensures hides { (secret : List ℕ) → option_map (λ p. p.items) password ≡ Some secret → Hides result secret }
+        ensures traced { IsTraced err (option_map (λ talk. talk.now) talk.entry)
+            (option_map (λ secret. secret.items) password) result }
     {
         if err.is_none() && talk.is_none() {
             return TracedWire { wire, trace: None };

@@ -94,8 +94,8 @@ fn read(rt: &HostRuntime) {
     begin(rt);
     let answer = match system.open(".") {
         Ok(mut folder) => {
-            let answer = folder.read(&mut [0; 4]);
-            folder.at(answer)
+            let answer = folder.inner.read(&mut [0; 4]);
+            folder.asked("read", answer)
         }
         Err(denial) => Err(denial),
     };

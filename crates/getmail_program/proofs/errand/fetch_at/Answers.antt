@@ -15,7 +15,7 @@ returns-clause-fetches g c =
         is_time = c.time.ensures;
         left = c.fetch_into-fetched.new.account;
         wire' = c.fetch_into-fetched.new.wire.wire;
-        holds = rw (made, c.shown-wire.ensures, c.second_of.ensures) at holds;
+        holds = rw (made, c.shown-wire.ensures.shown.inner, c.second_of.ensures) at holds;
         same = rw made at did.same;
       },
       record {
@@ -23,7 +23,7 @@ returns-clause-fetches g c =
         errors' = c.fetch_into-fetched.new.errors;
         tells = rw (
           made,
-          c.shown-wire.ensures,
+          c.shown-wire.ensures.shown.inner,
           c.second_of.ensures,
           c.as_str-destination.ensures.value,
           c.as_str-record.ensures.value,

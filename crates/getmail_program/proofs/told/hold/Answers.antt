@@ -19,7 +19,7 @@ returns-clause-held g c =
     let held = subst (λ w. Held w.wire ran.new.client.wire.now.wire) c.new-client.ensures.place.0
     ((ran.ensures.counted, ran.ensures.bounded), ran.ensures.session) in
     let moved = subst (λ w. Held c.args.wire.now.wire w.wire) same held in
-    let wiped = subst (λ w. Held c.args.wire.now.wire w) (sym c.wipe.ensures) moved in
+    let wiped = subst (λ w. Held c.args.wire.now.wire w) (sym (ap (λ s. s.wire) c.wipe.ensures.same)) moved in
     (c.if-terms.false, wiped.0, wiped.1)
 
 pub returns-clause-reported : goal.returns-clause-reported
@@ -29,11 +29,11 @@ returns-clause-reported g c =
     let same : ran.new.client.wire.now ≡ c.wire-1.given.0 = search rules in
     let begun = c.new-teller.ensures in
     let end = ran.new.listener in
-    let heard = heard_of contents (IsPlanOf g.W.Wire g.D.MaildirDisk g.F.FlatFile c.args.terms.now c.args.account.now
+    let (links, wrote, planned) = heard_of contents (IsPlanOf g.W.Wire g.D.MaildirDisk g.F.FlatFile c.args.terms.now c.args.account.now
     c.new-client.result.wire.now.wire ran.new.account ran.new.client.wire.now.wire ran.result) c.new-teller.result end
     ran.ensures.heard in
-    let out = c.out-1.given.1 (sym (heard.0.0 ∙ begun.links.0)) in
-    let notes = c.notes-2-1.given.1 (sym (heard.0.1 ∙ begun.links.1)) in
+    let out = c.out-1.given.1 (sym (links.out ∙ begun.links.0)) in
+    let notes = c.notes-2-1.given.1 (sym (links.notes ∙ begun.links.1)) in
     let written = c.deref-2.ensures.value ∙ ap (λ n. n.written.items) notes in
     let starts = rw c.settings.ensures.value at begun.begins in
     record {
@@ -43,13 +43,13 @@ returns-clause-reported g c =
           c.asked_for-plan.result.now end.notes.now.plan.items
           (c.asked_for-plan.ensures ∙ ap (λ (kept : List Step). if c.args.terms.explains then kept else [])
           (c.deref.ensures.value ∙ ap (λ n. n.plan.items) notes))
-          (rw (c.wipe.ensures, ← same, ← c.new-client.ensures.place.0) (elim heard.2 [
+          (rw (ap (λ s. s.wire) c.wipe.ensures.same, ← same, ← c.new-client.ensures.place.0) (elim planned [
             | inl kept ↦ inl (kept ∙ begun.plan ∙ c.new-notes.ensures.1)
             | inr own ↦ inr own
           ]));
       asked = λ no. rw no at c.asked_for-plan.ensures;
       puts = early_or_whole contents c.args.account.now.settings c.args.out.now c.new-teller.result end _ _ _ starts
-          (begun.verbose ∙ ap (λ s. s.verbose) c.settings.ensures.value) heard.1 written
+          (begun.verbose ∙ ap (λ s. s.verbose) c.settings.ensures.value) wrote written
           (rw (c.settings-settings.ensures.value, ran.ensures.same.settings) at (c.put_report.ensures c.args.out.now
-          (rw (written, out) (early contents _ c.args.out.now c.new-teller.result end starts heard.1))));
+          (rw (written, out) (early contents _ c.args.out.now c.new-teller.result end starts wrote))));
     }

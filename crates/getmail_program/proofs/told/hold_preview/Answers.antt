@@ -1,4 +1,4 @@
-use Rattle.std.proofs.Common.{refl}
+use Rattle.std.proofs.Common.{ap, refl}
 use Rattle.getmail_program.proofs.told.hold_preview.Goals as goal
 
 pub returns-clause-held : goal.returns-clause-held
@@ -6,7 +6,7 @@ returns-clause-held g c = (
   refl,
   (
     c.pretend-preview.result,
-    rw c.wipe.ensures (λ w d f. (c.pretend-preview.ensures.pretends w d f).4),
+    rw (ap (λ s. s.wire) c.wipe.ensures.same) (λ w d f. (c.pretend-preview.ensures.pretends w d f).4),
     rw (c.settings-settings.ensures.value, c.pretend-preview.ensures.settings) at c.said_ahead-said.ensures,
   ),
 )

@@ -1,6 +1,6 @@
 use Rattle.std.proofs.Common.{◌∙◌, ap, map, sym, string_bytes}
 use Rattle.clap.specs.Words.{App, fault_of, is_simple_and_free}
-use Rattle.popd_program.proofs.WordsLemmas.{has_kind, popd_is_free, rows_are}
+use Rattle.popd_program.proofs.WordsLemmas.{popd_kind, popd_is_free, popd_rows}
 use Rattle.popd_program.proofs.words.read_words.Goals as goal
 
 pub returns-in_ok-words_of-in-Ok-clause-faults : goal.returns-in_ok-words_of-in-Ok-clause-faults
@@ -10,7 +10,7 @@ returns-in_ok-words_of-in-Ok-clause-faults c =
 
 pub returns-in_ok-words_of-in-Ok-clause-asks : goal.returns-in_ok-words_of-in-Ok-clause-asks
 returns-in_ok-words_of-in-Ok-clause-asks c =
-    rw (rows_are _ _ c.in-Ok.matches c.in_ok-command.ensures c.in-Ok.ensures.matches) at c.in_ok-words_of-in-Ok.ensures
+    rw (popd_rows _ _ c.in-Ok.matches c.in_ok-command.ensures c.in-Ok.ensures.matches) at c.in_ok-words_of-in-Ok.ensures
 
 pub returns-in-Err-clause-faults : goal.returns-in-Err-clause-faults
-returns-in-Err-clause-faults c = has_kind _ _ c.in-Err.error c.in_ok-command.ensures c.in-Err.ensures.kinds
+returns-in-Err-clause-faults c = popd_kind _ _ c.in-Err.error c.in_ok-command.ensures c.in-Err.ensures.kinds

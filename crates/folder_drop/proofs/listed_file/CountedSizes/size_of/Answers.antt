@@ -1,8 +1,8 @@
 use Rattle.std.proofs.{Common.{Contains, sym}, lemmas.{List.Elements.Contains-get_or, Option.IfSome_then}}
 use Rattle.folder_drop.proofs.listed_file.CountedSizes.size_of.Goals as goal
 
-pub returns-then-is_same : goal.returns-then-is_same
-returns-then-is_same c =
+pub returns-then-is_same-clause-counted : goal.returns-then-is_same-clause-counted
+returns-then-is_same-clause-counted c =
     let file = c.file-item.result in
     let first : Contains c.loop-self.self.files.now file =
     rw c.file-item.is (Contains-get_or c.loop-self.self.files.now 0 file c.in-len1-up.len_at_least) in

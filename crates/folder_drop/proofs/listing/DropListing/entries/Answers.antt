@@ -4,7 +4,7 @@ use Rattle.pop3_server.specs.Maildrop.{max_count}
 use Rattle.folder_drop.{
   specs.{declared.listed_file.ListedFile.ListedFile, Listing.{FileListing, size_of_entry, size_of_file}, MaildirNames.id_of},
   specs.RealMaildir.{AreAscending, HaveIds, id_of_name, listed_name, listed_names, uid_of},
-  proofs.MaildirLemmas.{entry_more, size_more},
+  proofs.MaildirLemmas.{entry_more, entry_size_more},
 }
 use Rattle.folder_drop.proofs.listing.DropListing.entries.Goals as goal
 
@@ -31,7 +31,7 @@ loop-file-preserved c =
       omega (arith, more, before),
       rw c.in_ok-push.ensures.items (entry_more c.loop-file.entries.items c.args.self.now.files i c.new.result file fits
           is same c.loop-file.invariant.1),
-      rw c.in_ok-push.ensures.items (size_more c.loop-file.entries.items c.args.self.now.files i c.new.result file fits
+      rw c.in_ok-push.ensures.items (entry_size_more c.loop-file.entries.items c.args.self.now.files i c.new.result file fits
           is (ap size_of_entry c.new.ensures) c.loop-file.invariant.2),
     )
 

@@ -1,13 +1,13 @@
-use Rattle.std.proofs.Common.{◌∙◌}
-use Rattle.getmail_program.{proofs.EarlyLemmas.one_line, specs.Teller.wrote_both}
+use Rattle.std.proofs.Common.{[]}
+use Rattle.getmail_program.{proofs.EarlyLemmas.one_early_line, specs.Teller.heard_both}
 use Rattle.getmail_program.proofs.teller.TellerListener.hear.Goals as goal
 
 pub loop-i-preserved : goal.loop-i-preserved
 loop-i-preserved g c =
-    let before = c.loop-i.invariant in
-    let links = c.tell.ensures.links in (
-      (links.0 ∙ before.0.0, links.1 ∙ before.0.1, links.2 ∙ before.0.2),
-      wrote_both g.O.Write.contents c.args.self.now c.loop-i.self c.tell.new.self before.0.2 before.1
-          (one_line g.O.Write.contents c.loop-i.self c.tell.new.self _ c.tell.ensures.wrote c.tell.ensures.closed),
-      c.tell.ensures.plan ∙ before.2,
-    )
+    let now = c.loop-i.self in
+    let next = c.tell.new.self in
+    heard_both g.O.Write.contents c.args.self.now now next [] [] c.loop-i.invariant (record {
+      links = c.tell.ensures.links;
+      wrote = one_early_line g.O.Write.contents now next _ c.tell.ensures.wrote c.tell.ensures.closed;
+      plan = c.tell.ensures.plan;
+    })

@@ -1,0 +1,126 @@
+use Rattle.std.proofs.{
+  Common.{◌≡◌, ◌≤◌, ◌∙◌, ◌++◌, ◌∷◌, [], All, Contains, List, ap, arith, inl, inr, refl, subst, sym},
+  lemmas.{Bool.false≢true, List.Elements.{All-nil, All-push}, List.map-id},
+  lemmas.Iterator.{Adapters.YieldsList-from_vec, Consumers.YieldsList-end},
+}
+use Rattle.std.specs.Vec.Iter.{into_iter_items}
+use Rattle.mail_terms.specs.MaildirName.{base}
+use Rattle.pop3_server.specs.Maildrop.{max_size}
+use Rattle.folder_drop.specs.{
+  declared.{listed_file.ListedFile.ListedFile, maildir_names.PlacedFile.PlacedFile},
+  Listing.{FollowsLast, IsAccountedFor, IsBeforeLast, IsPassedOver},
+  MaildirNames.{IsIdKey, id_of},
+  Places.base_of_file,
+  RealMaildir.listed_name,
+}
+use Rattle.folder_drop.proofs.MaildirLemmas.{LastIsOf, all_still, in_order_here, last_now, last_still, listed_long}
+use Rattle.folder_drop.proofs.MaildirLemmas.{none_last, now_listed, passed_among, same_as_last}
+use Rattle.folder_drop.proofs.maildir_drop.listing.list_among.Goals as goal
+
+pub loop-file-init : goal.loop-file-init
+loop-file-init g c = (
+  c.in_ok-listed.ensures.listed,
+  none_last _ c.in_ok-listed.ensures.empty,
+  λ file there. subst (λ (files : List ListedFile). Contains files file) c.new-counted.ensures there,
+  All-nil _,
+)
+
+pub loop-file-preserved-then-not-is_behind : goal.loop-file-preserved-then-not-is_behind
+loop-file-preserved-then-not-is_behind g c =
+    let Passed = IsPassedOver g.D.File.Read.remaining (g.D.MailFiles.found c.args.files.now)
+    (g.D.MailFiles.opened c.args.files.now) (g.D.MailFiles.told c.args.files.now) c.args.earlier.now in
+    let known = c.loop-file.invariant in
+    let files = c.loop-file.listed.files.items in
+    let before = c.loop-file.yielded in
+    let file = c.in-Some.file in
+    let it = c.into_iter-file-iterator in
+    let rest = c.next.new.self in
+    let order = in_order_here c.args.found.items it.result before c.loop-file.file-iterator file rest it.ensures.into_iter_gives.0
+    c.loop-file.yielded_by c.in-Some.ensures.steps c.requires in
+    let behind = subst (λ name. IsBeforeLast files name) c.base-base.ensures (c.if-not-is_behind.ensures.before refl) in (
+      known.0,
+      last_still files before file known.1,
+      known.2,
+      All-push (IsAccountedFor Passed files) before file known.3
+          (inl (same_as_last files before (into_iter_items rest) file order known.1 behind)),
+    )
+
+pub loop-file-preserved-then-not-is_unseen : goal.loop-file-preserved-then-not-is_unseen
+loop-file-preserved-then-not-is_unseen g c =
+    let Passed = IsPassedOver g.D.File.Read.remaining (g.D.MailFiles.found c.args.files.now)
+    (g.D.MailFiles.opened c.args.files.now) (g.D.MailFiles.told c.args.files.now) c.args.earlier.now in
+    let known = c.loop-file.invariant in
+    let files = c.loop-file.listed.files.items in
+    let before = c.loop-file.yielded in
+    let file = c.in-Some.file in
+    let key = subst (λ name. IsIdKey c.in_ok-long_id.long_id (id_of name)) (c.as_bytes.ensures.value
+    ∙ c.base-base.ensures) c.in_ok-long_id.ensures in (
+      known.0,
+      last_still files before file known.1,
+      known.2,
+      All-push (IsAccountedFor Passed files) before file known.3 (inl (listed_long c.loop-file.listed.long_ids files c.in_ok-long_id.long_id
+          (base_of_file file) known.0 key (λ unseen. false≢true (c.if-not-is_unseen.ensures.1 unseen)))),
+    )
+
+pub returns-then-is_full-clause-whole : goal.returns-then-is_full-clause-whole
+returns-then-is_full-clause-whole g c = λ k d fits.
+    let full = c.if-is_full.ensures.full refl in
+    let ok = c.loop-file.listed.files.ok in inr (inl (omega (arith, full, ok)))
+
+pub loop-file-preserved-in-None-2 : goal.loop-file-preserved-in-None-2
+loop-file-preserved-in-None-2 g c =
+    let Passed = IsPassedOver g.D.File.Read.remaining (g.D.MailFiles.found c.args.files.now)
+    (g.D.MailFiles.opened c.args.files.now) (g.D.MailFiles.told c.args.files.now) c.args.earlier.now in
+    let known = c.loop-file.invariant in
+    let files = c.loop-file.listed.files.items in
+    let before = c.loop-file.yielded in
+    let file = c.in-Some.file in
+    let none = rw c.in-None-2.is at c.in_ok-measured.ensures.none in
+    let passed = passed_among g.D.File.Read.remaining (g.D.MailFiles.found c.args.files.now)
+    (g.D.MailFiles.opened c.args.files.now) (g.D.MailFiles.told c.args.files.now) c.loop-file.counted.files.now
+    c.args.earlier.now file known.2 none in (
+      known.0,
+      last_still files before file known.1,
+      λ f there. known.2 f (c.measure.ensures.rest f there),
+      All-push (IsAccountedFor Passed files) before file known.3 (inr (inr passed)),
+    )
+
+pub loop-file-preserved : goal.loop-file-preserved
+loop-file-preserved g c =
+    let Passed = IsPassedOver g.D.File.Read.remaining (g.D.MailFiles.found c.args.files.now)
+    (g.D.MailFiles.opened c.args.files.now) (g.D.MailFiles.told c.args.files.now) c.args.earlier.now in
+    let known = c.loop-file.invariant in
+    let files = c.loop-file.listed.files.items in
+    let before = c.loop-file.yielded in
+    let file = c.in-Some.file in
+    let new = c.of.result in
+    let added : c.add.new.self.files.items ≡ files ++ new ∷ [] = c.in_ok-add.ensures.added in
+    let is_base : base (listed_name new) ≡ base_of_file file =
+    ap (λ (f : ListedFile). base (listed_name f)) c.of.ensures in
+    let named : c.base-base.result.now ≡ base (listed_name new) = c.base-base.ensures ∙ sym is_base in
+    let within = rw c.in-Some-2.is at c.in_ok-measured.ensures.within in
+    let sized = ap (λ (f : ListedFile). f.size) c.of.ensures in
+    let small : new.size ≤ max_size = omega (arith, within, sized) in (
+      c.in_ok-add.ensures.listed (record {
+        behind = subst (λ name. FollowsLast files name) named (c.if-not-is_behind.ensures.behind refl);
+        is_key = subst (λ name. IsIdKey c.in_ok-long_id.long_id (id_of name)) (c.as_bytes.ensures.value ∙ named)
+            c.in_ok-long_id.ensures;
+        unseen = c.if-not-is_unseen.ensures.0 refl;
+      }) (c.if-is_full.ensures.room refl) small known.0,
+      subst (λ (all : List ListedFile). LastIsOf all (before ++ file ∷ [])) (sym added) (last_now files new before file is_base),
+      λ f there. known.2 f (c.measure.ensures.rest f there),
+      subst (λ (all : List ListedFile). All (IsAccountedFor Passed all) (before ++ file ∷ [])) (sym added)
+          (All-push (IsAccountedFor Passed (files ++ new ∷ [])) before file (all_still Passed files new before known.3)
+          (inl (now_listed files new (base_of_file file) is_base))),
+    )
+
+pub returns-clause-whole : goal.returns-clause-whole
+returns-clause-whole g c =
+    let Passed = IsPassedOver g.D.File.Read.remaining (g.D.MailFiles.found c.args.files.now)
+    (g.D.MailFiles.opened c.args.files.now) (g.D.MailFiles.told c.args.files.now) c.args.earlier.now in
+    let it = c.into_iter-file-iterator in
+    let gives = it.ensures.into_iter_gives in
+    let all = YieldsList-end (YieldsList-from_vec c.args.found.items gives.0 (gives.1 ∙ c.args.found.ok.0)) c.loop-file.yielded
+    c.loop-file.file-iterator c.loop-file.yielded_by c.next.result c.next.new.self c.in-None.is c.next.ensures.steps in
+    subst (λ (files : List PlacedFile). All (IsAccountedFor Passed c.loop-file.listed.files.items) files)
+    (sym (map-id c.loop-file.yielded) ∙ all.0) c.loop-file.invariant.3

@@ -1,0 +1,12 @@
+use Rattle.std.proofs.Common.{All}
+use Rattle.folder_drop.{
+  specs.{CountedSizes.ComeFrom, Listing.{AreListed, IsAccountedFor, IsPassedOver}},
+  proofs.MaildirLemmas.LastIsOf,
+}
+use Rattle.folder_drop.proofs.maildir_drop.listing.list_among.Given as goal
+
+abbrev pub invariant-loop-file : goal.invariant-loop-file
+invariant-loop-file g l = AreListed l.listed.long_ids l.listed.files.items × LastIsOf l.listed.files.items l.yielded
+    × ComeFrom l.counted.files.now l.earlier
+    × All (IsAccountedFor (IsPassedOver g.D.File.Read.remaining (g.D.MailFiles.found l.files) (g.D.MailFiles.opened l.files)
+    (g.D.MailFiles.told l.files) l.earlier) l.listed.files.items) l.yielded

@@ -1,0 +1,29 @@
+use Rattle.std.proofs.Common.{◌≡◌, ◌++◌, ◌∙◌, ℕ, List, ap, refl, subst, sym, string_bytes}
+use Rattle.folder_store.specs.{Calls.{IsOpenedAt}, HostPaths.{folder_of, path_named}, Under.{front_of}}
+use Rattle.folder_store.proofs.Changing.{cuts_answer, cuts_change, keeps_open, still_open}
+use Rattle.folder_store.proofs.kept_file.cut_kept.Goals as goal
+
+pub returns-clause-cuts : goal.returns-clause-cuts
+returns-clause-cuts g c = λ s.
+    let cut = c.cut_watched-answer.ensures s in
+    let first = c.in_ok-changed.ensures.opens cut.0 in (
+      first.0,
+      cuts_answer (g.C.FileCalls.tree c.args.calls.now) (g.C.FileCalls.tree c.cut_watched-answer.new.calls)
+          (path_named c.args.paths.now c.args.name.now)
+          (g.C.File.OpenHandle.opened c.in_ok-changed.changed.file) c.args.len c.cut_watched-answer.result first.2.0 (rw first.1 at cut.1),
+    )
+
+pub returns-clause-kept : goal.returns-clause-kept
+returns-clause-kept g c = keeps_open g.C.File.OpenHandle.opened (folder_of c.args.paths.now) _ _ (g.C.FileCalls.tree c.args.calls.now)
+    (g.C.FileCalls.tree c.cut_watched-answer.new.calls) c.args.handles.now c.keep.new.self c.in_ok-changed.changed c.requires
+    (λ s. (c.in_ok-changed.ensures.opens (c.cut_watched-answer.ensures s).0).0) c.keep.ensures.0
+    (c.keep.ensures.1 ∙ c.in_ok-changed.ensures.others.1)
+    (λ s.
+    let cut = c.cut_watched-answer.ensures s in
+    let first = c.in_ok-changed.ensures.opens cut.0 in
+    subst (λ (name : List ℕ). IsOpenedAt (g.C.FileCalls.tree c.cut_watched-answer.new.calls) (front_of (folder_of c.args.paths.now) ++ name)
+    (g.C.File.OpenHandle.opened c.in_ok-changed.changed.file)) (sym first.2.1)
+    (still_open (g.C.FileCalls.tree c.args.calls.now) (g.C.FileCalls.tree c.cut_watched-answer.new.calls)
+    (path_named c.args.paths.now c.args.name.now)
+    (g.C.File.OpenHandle.opened c.in_ok-changed.changed.file) (g.C.File.OpenHandle.opened c.in_ok-changed.changed.file) first.2.0
+    (cuts_change _ _ _ _ c.args.len c.cut_watched-answer.result first.2.0 (rw first.1 at cut.1)) refl))

@@ -1,0 +1,441 @@
+//! What changes a folder's files and makes them durable, by handles that may be kept.
+
+ghost use Rattle.std.specs.Prelude.{◌≡◌, ◌-◌, ◌≤◌, None, IfOk, IfSome, OnOk, length};
+ghost use Rattle.folder_store.specs.{
+  Calls.{AppendsOpened, AppendsSome, Creates, Truncates, FlushesFolder, Renames, Syncs, answered},
+  FileFolder.{AppendsTo, CutsTo, FlushesFile, TellsFileSize},
+  HostPaths.{folder_of, path_named},
+  Kept.{KeptHolds, OpensKept},
+};
+
+use crate::calls::{Access, FileCalls, OpenHandle};
+use crate::handles::{Changed, Handles, Names};
+use crate::host_paths::HostPaths;
+use crate::new_file::no_octet;
+use crate::opened_file::{measure, open_regular};
+use crate::watch::{CHANGED, Watch};
+use std::io::{self, ErrorKind};
+use system_calls::Denial;
+
+/// Makes a file to be put under a name.
+pub fn make_marked<C: FileCalls>(
+    calls: &mut C,
+    paths: &HostPaths<'_>,
+    name: &str,
+) -> Result<C::Made, Denial>
+    ensures { C.sound calls.new → C.sound calls.old × (C.tree calls.new ≡ C.tree calls.old)
+        × (IfOk result C.Made.sound → Creates C.Made.made (C.tree calls.old) result) }
+{
+    let path = paths.made_path(name)?;
+    calls.create(path.as_str())
+}
+
+/// Puts a file that was made under a name.
+fn rename_made<C: FileCalls>(
+    calls: &mut C,
+    paths: &HostPaths<'_>,
+    file: &C::Made,
+    name: &str,
+) -> Result<(), Denial>
+    ensures { C.sound calls.new → C.sound calls.old × OnOk result (C.Made.sound file.now)
+        × Renames (C.tree calls.old) (C.Made.made file.now) (path_named paths.now name.now) result (C.tree calls.new) }
+{
+    let path = paths.path_of(name)?;
+    calls.rename(file, path.as_str())
+}
+
+/// The same. If that is refused, the file is given up.
+pub fn put_made<C: FileCalls>(
+    calls: &mut C,
+    paths: &HostPaths<'_>,
+    file: &C::Made,
+    name: &str,
+) -> Result<(), Denial>
+    ensures { C.sound calls.new → C.sound calls.old × C.Made.sound file.now
+        × Renames (C.tree calls.old) (C.Made.made file.now) (path_named paths.now name.now) result (C.tree calls.new) }
+{
+    match rename_made(calls, paths, file, name) {
+        Ok(()) => Ok(()),
+        Err(fault) => {
+            let _ = calls.unlink(file);
+            Err(fault)
+        }
+    }
+}
+
+/// The handle kept from the file's last change, or a new one.
+fn handle_of<C: FileCalls>(
+    calls: &mut C,
+    paths: &HostPaths<'_>,
+    handles: &mut Handles<C::File>,
+    name: &str,
+) -> Result<Changed<C::File>, Denial>
+    requires { KeptHolds (C.sound calls.old) C.File.opened (C.tree calls.old) (folder_of paths.now) handles.old }
+    ensures opens { C.sound calls.new → C.sound calls.old × (C.tree calls.new ≡ C.tree calls.old)
+        × OpensKept C.File.opened (C.tree calls.old) paths.now name.now result }
+    ensures others { (handles.new.changed ≡ None) × (handles.new.names ≡ handles.old.names) }
+{
+    if let Some(changed) = handles.take_kept(name) {
+        return Ok(changed);
+    }
+    let title = String::from_str(paths.alloc, name)?;
+    let file = open_regular(calls, paths, name, Access::Append)?;
+    Ok(Changed { file, name: title })
+}
+
+/// The size of a file by the handle that is kept, which also tells whether the file was removed meanwhile: nothing is
+/// written to one that has no name any more.
+fn measure_kept<C: FileCalls>(
+    calls: &mut C,
+    paths: &HostPaths<'_>,
+    handles: &mut Handles<C::File>,
+    name: &str,
+) -> Result<u64, Denial>
+    requires { KeptHolds (C.sound calls.old) C.File.opened (C.tree calls.old) (folder_of paths.now) handles.old }
+    ensures tells { C.sound calls.new → C.sound calls.old × (C.tree calls.new ≡ C.tree calls.old)
+        × TellsFileSize (C.tree calls.old).directory (path_named paths.now name.now) (answered result)
+        (C.tree calls.old).directory }
+    ensures kept { KeptHolds (C.sound calls.new) C.File.opened (C.tree calls.new) (folder_of paths.now) handles.new }
+{
+    let changed = handle_of(calls, paths, handles, name)?;
+    let found = calls.fstat(&changed.file)?;
+    if found.links == 0 {
+        return Err(changed.file.denied(io::Error::from(ErrorKind::NotFound)));
+    }
+    handles.keep(changed);
+    Ok(found.len)
+}
+
+/// The size of the file of a name.
+pub fn size_of<C: FileCalls>(
+    calls: &mut C,
+    paths: &HostPaths<'_>,
+    handles: &mut Handles<C::File>,
+    name: &str,
+) -> Result<u64, Denial>
+    requires { KeptHolds (C.sound calls.old) C.File.opened (C.tree calls.old) (folder_of paths.now) handles.old }
+    ensures tells { C.sound calls.new → C.sound calls.old × (C.tree calls.new ≡ C.tree calls.old)
+        × TellsFileSize (C.tree calls.old).directory (path_named paths.now name.now) (answered result)
+        (C.tree calls.old).directory }
+    ensures kept { KeptHolds (C.sound calls.new) C.File.opened (C.tree calls.new) (folder_of paths.now) handles.new }
+{
+    if handles.keeps_handle {
+        return measure_kept(calls, paths, handles, name);
+    }
+    measure(calls, paths, name)
+}
+
+/// Writes some octets behind those of an open file, and returns how many; None if the call was interrupted.
+fn append_some<C: FileCalls>(
+    calls: &mut C,
+    file: &mut C::File,
+    bytes: &[u8],
+) -> Result<Option<usize>, Denial>
+    ensures within { IfOk result (λ wrote. IfSome wrote (λ n. n ≤ length bytes.now)) }
+    ensures appends { C.sound calls.new → C.sound calls.old × (C.File.opened file.new ≡ C.File.opened file.old)
+        × AppendsSome (C.tree calls.old) (C.File.opened file.old) bytes.now result (C.tree calls.new) }
+{
+    match calls.write(file, bytes) {
+        Ok(count) => {
+            if count == 0 && !bytes.is_empty() {
+                return Err(file.denied(no_octet()));
+            }
+            Ok(Some(count))
+        }
+        Err(fault) => {
+            if fault.kind() == ErrorKind::Interrupted {
+                return Ok(None);
+            }
+            Err(fault)
+        }
+    }
+}
+
+/// Writes octets behind those of an open file, and returns how many of them were taken, and what refused the others.
+fn append_counted<C: FileCalls>(
+    calls: &mut C,
+    file: &mut C::File,
+    bytes: &[u8],
+) -> (u64, Result<(), Denial>)
+    ensures { C.sound calls.new → C.sound calls.old × (C.File.opened file.new ≡ C.File.opened file.old)
+        × AppendsOpened (C.tree calls.old) (C.File.opened file.old) bytes.now result.1 (C.tree calls.new) }
+{
+    let mut rest = bytes;
+    for _ in 0..u64::MAX {
+        if rest.is_empty() {
+            return (bytes.len() as u64, Ok(()));
+        }
+        let wrote = match append_some(calls, file, rest) {
+            Ok(wrote) => wrote,
+            Err(fault) => return (taken(bytes, rest), Err(fault)),
+        };
+        match wrote {
+            Some(count) => {
+                rest = &rest[count..];
+            }
+            None => {}
+        }
+    }
+    let fault = file.denied(io::Error::from(ErrorKind::ResourceBusy));
+    (taken(bytes, rest), Err(fault))
+}
+
+/// How many of these octets were taken, of which the rest wasn't.
+fn taken(bytes: &[u8], rest: &[u8]) -> u64
+    ensures { result ≡ length bytes.now - length rest.now }
+{
+    bytes.len().saturating_sub(rest.len()) as u64
+}
+
+/// A watched file must be as it was left.
+fn check_watched<C: FileCalls>(
+    calls: &mut C,
+    paths: &HostPaths<'_>,
+    watch: &mut Watch,
+    changed: &Changed<C::File>,
+) -> Result<(), Denial>
+    ensures { C.sound calls.new → C.sound calls.old × (C.tree calls.new ≡ C.tree calls.old) }
+{
+    if watch.watches() {
+        let found = calls.fstat(&changed.file)?;
+        watch.check(paths, changed.name.as_str(), &found)?;
+    }
+    Ok(())
+}
+
+/// Takes note of a watched file after a change that added `more` octets to it, or none.
+fn note_watched<C: FileCalls>(
+    calls: &mut C,
+    paths: &HostPaths<'_>,
+    watch: &mut Watch,
+    changed: &Changed<C::File>,
+    more: u64,
+) -> Result<(), Denial>
+    ensures { C.sound calls.new → C.sound calls.old × (C.tree calls.new ≡ C.tree calls.old) }
+{
+    if watch.is_set() {
+        let found = calls.fstat(&changed.file)?;
+        watch.note(paths, changed.name.as_str(), &found, more)?;
+    }
+    Ok(())
+}
+
+/// Appends to an open file, which may be watched. What others append meanwhile isn't taken for a part of it.
+fn append_watched<C: FileCalls>(
+    calls: &mut C,
+    paths: &HostPaths<'_>,
+    watch: &mut Watch,
+    changed: &mut Changed<C::File>,
+    bytes: &[u8],
+) -> Result<(), Denial>
+    ensures { C.sound calls.new → C.sound calls.old
+        × (C.File.opened changed.new.file ≡ C.File.opened changed.old.file) × (changed.new.name ≡ changed.old.name)
+        × AppendsOpened (C.tree calls.old) (C.File.opened changed.old.file) bytes.now result (C.tree calls.new) }
+{
+    check_watched(calls, paths, watch, changed)?;
+    let (count, answer) = append_counted(calls, &mut changed.file, bytes);
+    match note_watched(calls, paths, watch, changed, count) {
+        Ok(()) => answer,
+        Err(fault) => Err(fault),
+    }
+}
+
+/// Appends to a file.
+pub fn append_kept<C: FileCalls>(
+    calls: &mut C,
+    paths: &HostPaths<'_>,
+    handles: &mut Handles<C::File>,
+    name: &str,
+    bytes: &[u8],
+) -> Result<(), Denial>
+    requires { KeptHolds (C.sound calls.old) C.File.opened (C.tree calls.old) (folder_of paths.now) handles.old }
+    ensures appends { C.sound calls.new → C.sound calls.old
+        × AppendsTo (C.tree calls.old).directory (path_named paths.now name.now) bytes.now (answered result)
+        (C.tree calls.new).directory }
+    ensures kept { KeptHolds (C.sound calls.new) C.File.opened (C.tree calls.new) (folder_of paths.now) handles.new }
+{
+    let mut changed = handle_of(calls, paths, handles, name)?;
+    let answer = append_watched(calls, paths, &mut handles.watch, &mut changed, bytes);
+    handles.keep(changed);
+    answer
+}
+
+/// Cuts an open file, which may be watched, to its first octets.
+fn cut_watched<C: FileCalls>(
+    calls: &mut C,
+    paths: &HostPaths<'_>,
+    watch: &mut Watch,
+    changed: &Changed<C::File>,
+    len: u64,
+) -> Result<(), Denial>
+    ensures { C.sound calls.new → C.sound calls.old
+        × Truncates (C.tree calls.old) (C.File.opened changed.now.file) len result (C.tree calls.new) }
+{
+    let found = calls.fstat(&changed.file)?;
+    watch.check(paths, changed.name.as_str(), &found)?;
+    if found.len < len {
+        return Err(paths.refusal(changed.name.as_str(), CHANGED));
+    }
+    calls.ftruncate(&changed.file, len)?;
+    if watch.watches() {
+        watch.leave(&calls.fstat(&changed.file)?);
+    }
+    Ok(())
+}
+
+/// Cuts a file to its first octets.
+pub fn cut_kept<C: FileCalls>(
+    calls: &mut C,
+    paths: &HostPaths<'_>,
+    handles: &mut Handles<C::File>,
+    name: &str,
+    len: u64,
+) -> Result<(), Denial>
+    requires { KeptHolds (C.sound calls.old) C.File.opened (C.tree calls.old) (folder_of paths.now) handles.old }
+    ensures cuts { C.sound calls.new → C.sound calls.old
+        × CutsTo (C.tree calls.old).directory (path_named paths.now name.now) len (answered result)
+        (C.tree calls.new).directory }
+    ensures kept { KeptHolds (C.sound calls.new) C.File.opened (C.tree calls.new) (folder_of paths.now) handles.new }
+{
+    let changed = handle_of(calls, paths, handles, name)?;
+    let answer = cut_watched(calls, paths, &mut handles.watch, &changed, len);
+    handles.keep(changed);
+    answer
+}
+
+/// Flushes an open file, which may be watched. Some systems set its time of change only now.
+fn flush_watched<C: FileCalls>(
+    calls: &mut C,
+    paths: &HostPaths<'_>,
+    watch: &mut Watch,
+    changed: &Changed<C::File>,
+) -> Result<(), Denial>
+    ensures { C.sound calls.new → C.sound calls.old
+        × Syncs (C.tree calls.old) (C.File.opened changed.now.file) result (C.tree calls.new) }
+{
+    match calls.fsync(&changed.file) {
+        Ok(()) => note_watched(calls, paths, watch, changed, 0),
+        Err(fault) => Err(fault),
+    }
+}
+
+/// Flushes the folders that hold what a name leads to by way of links: else the file's name may not be durable.
+pub fn flush_links<C: FileCalls>(
+    calls: &C,
+    paths: &HostPaths<'_>,
+    handles: &mut Handles<C::File>,
+    name: &str,
+) -> Result<(), Denial>
+    ensures { (handles.new.changed ≡ handles.old.changed) × (handles.new.names ≡ handles.old.names) }
+{
+    let path = paths.path_of(name)?;
+    let unflushed = calls.flush_targets(path.as_str())?;
+    handles.note_unflushed(unflushed);
+    Ok(())
+}
+
+/// Flushes the file of a name by a new handle.
+fn flush_anew<C: FileCalls>(
+    calls: &mut C,
+    paths: &HostPaths<'_>,
+    handles: &mut Handles<C::File>,
+    name: &str,
+) -> Result<(), Denial>
+    ensures flushes { C.sound calls.new → C.sound calls.old
+        × FlushesFile (C.tree calls.old).directory (path_named paths.now name.now) (answered result)
+        (C.tree calls.new).directory }
+    ensures others { (handles.new.changed ≡ handles.old.changed) × (handles.new.names ≡ handles.old.names) }
+{
+    let file = open_regular(calls, paths, name, Access::Read)?;
+    match calls.fsync(&file) {
+        Ok(()) => flush_links(calls, paths, handles, name),
+        Err(fault) => Err(fault),
+    }
+}
+
+/// Flushes a file by the handle that changed it last, if it is open: the system may report a fault to no other. After a
+/// fault that handle isn't used again.
+pub fn flush_kept<C: FileCalls>(
+    calls: &mut C,
+    paths: &HostPaths<'_>,
+    handles: &mut Handles<C::File>,
+    name: &str,
+) -> Result<(), Denial>
+    requires { KeptHolds (C.sound calls.old) C.File.opened (C.tree calls.old) (folder_of paths.now) handles.old }
+    ensures flushes { C.sound calls.new → C.sound calls.old
+        × FlushesFile (C.tree calls.old).directory (path_named paths.now name.now) (answered result)
+        (C.tree calls.new).directory }
+    ensures kept { KeptHolds (C.sound calls.new) C.File.opened (C.tree calls.new) (folder_of paths.now) handles.new }
+{
+    match handles.take_changed(name) {
+        Some(changed) => {
+            let answer = flush_watched(calls, paths, &mut handles.watch, &changed);
+            handles.keep_flushed(changed, answer.is_ok());
+            answer
+        }
+        None => flush_anew(calls, paths, handles, name),
+    }
+}
+
+/// Flushes the names of an open folder. False if the system flushes no folders, which is no fault.
+fn flush_folder<C: FileCalls>(calls: &mut C, folder: &C::File) -> Result<bool, Denial>
+    ensures { C.sound calls.new → C.sound calls.old
+        × FlushesFolder (C.tree calls.old) (C.File.opened folder.now).path result (C.tree calls.new) }
+{
+    match calls.fsync_folder(folder) {
+        Ok(()) => Ok(true),
+        Err(fault) => match fault.kind() {
+            ErrorKind::InvalidInput | ErrorKind::Unsupported => Ok(false),
+            _ => Err(fault),
+        },
+    }
+}
+
+/// The folder itself: it is opened once, and again if its path leads to another one by now, since files are put there
+/// by their paths. It is taken out.
+fn names_of<C: FileCalls>(
+    calls: &mut C,
+    paths: &HostPaths<'_>,
+    handles: &mut Handles<C::File>,
+) -> Result<Names<C::File>, Denial>
+    requires { KeptHolds (C.sound calls.old) C.File.opened (C.tree calls.old) (folder_of paths.now) handles.old }
+    ensures opens { C.sound calls.new → C.sound calls.old × (C.tree calls.new ≡ C.tree calls.old)
+        × IfOk result (λ names. (C.File.opened names.folder).path ≡ folder_of paths.now) }
+    ensures others { (handles.new.changed ≡ handles.old.changed) × (handles.new.names ≡ None) }
+{
+    let kept = handles.names.take();
+    let path = paths.folder_path()?;
+    if let Some(names) = kept {
+        let found = calls.stat(path.as_str())?;
+        if names.is_of(&found) {
+            return Ok(names);
+        }
+    }
+    let folder = calls.open(path.as_str(), Access::Read)?;
+    let found = calls.fstat(&folder)?;
+    Ok(Names {
+        folder,
+        device: found.device,
+        inode: found.inode,
+    })
+}
+
+/// Flushes the names of a folder, which stays open unless that is refused. False if its file system flushes no folders.
+pub fn flush_names<C: FileCalls>(
+    calls: &mut C,
+    paths: &HostPaths<'_>,
+    handles: &mut Handles<C::File>,
+) -> Result<bool, Denial>
+    requires { KeptHolds (C.sound calls.old) C.File.opened (C.tree calls.old) (folder_of paths.now) handles.old }
+    ensures flushes { C.sound calls.new → C.sound calls.old
+        × FlushesFolder (C.tree calls.old) (folder_of paths.now) result (C.tree calls.new) }
+    ensures kept { KeptHolds (C.sound calls.new) C.File.opened (C.tree calls.new) (folder_of paths.now) handles.new }
+{
+    let names = names_of(calls, paths, handles)?;
+    let is_flushed = flush_folder(calls, &names.folder)?;
+    if !is_flushed {
+        handles.note_unflushed(Some(paths.folder_path()?));
+    }
+    handles.keep_names(names);
+    Ok(is_flushed)
+}

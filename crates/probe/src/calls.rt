@@ -1,0 +1,287 @@
+//! Lists of single calls of a file system, made in folders of the machine or in memory, for the tests from outside.
+
+ghost use Rattle.std.specs.Prelude.{◌≡◌, ◌<◌, length};
+
+use crate::trouble::{Result, Trouble};
+use folder_store::{Access, FileCalls, FileKind, FileStat, HostCalls, MadeHandle};
+use std::alloc::Global;
+use std::fs;
+use std::io::{ErrorKind, Write};
+use system_calls::{Denial, Refusals, System};
+use test_devices::MemoryCalls;
+
+/// The line between two lists, and between the answers to them.
+const NEXT: &str = "next\n";
+
+/// The most octets that are read at once.
+const ROOM: usize = 64;
+
+/// What a list made and opened, in the order in which it asked for that. None is what was refused.
+#[derive(Drop)]
+struct Handles<C: FileCalls> {
+    made: Vec<Option<C::Made>>,
+    opened: Vec<Option<C::File>>,
+}
+
+/// How a refusal is told.
+fn word_of(denial: &Denial) -> &str {
+    match denial.kind() {
+        ErrorKind::NotFound => "absent",
+        ErrorKind::Interrupted => "interrupted",
+        _ => "refused",
+    }
+}
+
+/// Adds the answer of a call that only does something.
+fn tell_done(answers: &mut Vec<u8>, answer: std::result::Result<(), Denial>) -> Result<()> {
+    match answer {
+        Ok(()) => writeln!(answers, "done")?,
+        Err(denial) => writeln!(answers, "{}", word_of(&denial))?,
+    }
+    Ok(())
+}
+
+/// Adds the answer of a call that writes.
+fn tell_count(answers: &mut Vec<u8>, answer: std::result::Result<usize, Denial>) -> Result<()> {
+    match answer {
+        Ok(count) => writeln!(answers, "{count}")?,
+        Err(denial) => writeln!(answers, "{}", word_of(&denial))?,
+    }
+    Ok(())
+}
+
+/// Adds what is told of a file.
+fn tell_stat(answers: &mut Vec<u8>, answer: std::result::Result<FileStat, Denial>) -> Result<()> {
+    match answer {
+        Ok(found) => match found.kind {
+            FileKind::File => writeln!(answers, "file {}", found.len)?,
+            FileKind::Folder => writeln!(answers, "folder")?,
+            FileKind::Other => writeln!(answers, "other")?,
+        },
+        Err(denial) => writeln!(answers, "{}", word_of(&denial))?,
+    }
+    Ok(())
+}
+
+/// Keeps what was made or opened, if it was, and adds the answer.
+fn keep<T: Drop>(
+    handles: &mut Vec<Option<T>>,
+    answers: &mut Vec<u8>,
+    answer: std::result::Result<T, Denial>,
+) -> Result<()> {
+    match answer {
+        Ok(handle) => {
+            handles.push(Some(handle))?;
+            writeln!(answers, "done")?;
+        }
+        Err(denial) => {
+            handles.push(None)?;
+            writeln!(answers, "{}", word_of(&denial))?;
+        }
+    }
+    Ok(())
+}
+
+/// Takes a handle out, if it is there.
+fn taken<T: Drop>(handles: &mut Vec<Option<T>>, number: &str) -> Result<Option<T>> {
+    let number: usize = number.parse()?;
+    match handles.get_mut(number) {
+        Some(handle) => Ok(handle.take()),
+        None => Ok(None),
+    }
+}
+
+/// Puts a handle back.
+fn put_back<T: Drop>(handles: &mut Vec<Option<T>>, number: &str, handle: T) -> Result<()> {
+    let number: usize = number.parse()?;
+    if let Some(room) = handles.get_mut(number) {
+        *room = Some(handle);
+    }
+    Ok(())
+}
+
+/// Makes the call of this name on a path.
+fn call_on_path<C: FileCalls>(
+    calls: &mut C,
+    handles: &mut Handles<C>,
+    call: &str,
+    path: &str,
+    answers: &mut Vec<u8>,
+) -> Result<()> {
+    match call {
+        "create" => keep(&mut handles.made, answers, calls.create(path)),
+        "open" => keep(&mut handles.opened, answers, calls.open(path, Access::Read)),
+        "open-append" => keep(
+            &mut handles.opened,
+            answers,
+            calls.open(path, Access::Append),
+        ),
+        "stat" => tell_stat(answers, calls.stat(path)),
+        _ => Err(Trouble::Other),
+    }
+}
+
+/// Makes the call of this name on a file that was made.
+fn call_on_made<C: FileCalls>(
+    calls: &mut C,
+    file: &mut C::Made,
+    call: &str,
+    word: &str,
+    answers: &mut Vec<u8>,
+) -> Result<()> {
+    match call {
+        "made-write" => tell_count(answers, file.write(word.as_bytes())),
+        "made-fsync" => tell_done(answers, file.fsync()),
+        "rename" => tell_done(answers, calls.rename(file, word)),
+        "unlink" => tell_done(answers, calls.unlink(file)),
+        _ => Err(Trouble::Other),
+    }
+}
+
+/// Reads so many octets, and adds them.
+fn read<C: FileCalls>(
+    calls: &mut C,
+    file: &mut C::File,
+    count: usize,
+    answers: &mut Vec<u8>,
+) -> Result<()> {
+    let mut buf = [0; ROOM];
+    if count == 0 || count > ROOM {
+        return Err(Trouble::Other);
+    }
+    match calls.read(file, &mut buf[..count]) {
+        Ok(count) => {
+            answers.push(b'=')?;
+            answers.extend_from_slice(&buf[..count])?;
+            answers.push(b'\n')?;
+        }
+        Err(denial) => writeln!(answers, "{}", word_of(&denial))?,
+    }
+    Ok(())
+}
+
+/// Cuts a file to so many octets, if it has them.
+fn cut<C: FileCalls>(
+    calls: &mut C,
+    file: &mut C::File,
+    len: u64,
+    answers: &mut Vec<u8>,
+) -> Result<()> {
+    match calls.fstat(file) {
+        Ok(found) => {
+            if len > found.len {
+                writeln!(answers, "beyond")?;
+                return Ok(());
+            }
+            let answer = calls.ftruncate(file, len);
+            tell_done(answers, answer)
+        }
+        Err(denial) => {
+            writeln!(answers, "{}", word_of(&denial))?;
+            Ok(())
+        }
+    }
+}
+
+/// Makes the call of this name on an open file.
+fn call_on_opened<C: FileCalls>(
+    calls: &mut C,
+    file: &mut C::File,
+    call: &str,
+    word: &str,
+    answers: &mut Vec<u8>,
+) -> Result<()> {
+    match call {
+        "fstat" => tell_stat(answers, calls.fstat(file)),
+        "read" => read(calls, file, word.parse()?, answers),
+        "lseek" => tell_done(answers, calls.seek(file, word.parse()?)),
+        "write" => tell_count(answers, calls.write(file, word.as_bytes())),
+        "ftruncate" => cut(calls, file, word.parse()?, answers),
+        "fsync" => tell_done(answers, calls.fsync(file)),
+        "fsync-folder" => tell_done(answers, calls.fsync_folder(file)),
+        _ => Err(Trouble::Other),
+    }
+}
+
+/// Makes the call of a line: its name; a handle's number or `-`; a path, octets or a number.
+fn call_line<C: FileCalls>(
+    calls: &mut C,
+    handles: &mut Handles<C>,
+    words: (&str, &str, &str),
+    answers: &mut Vec<u8>,
+) -> Result<()> {
+    let (call, number, word) = words;
+    if number == "-" {
+        return call_on_path(calls, handles, call, word, answers);
+    }
+    if matches!(call, "made-write" | "made-fsync" | "rename" | "unlink") {
+        if let Some(mut file) = taken(&mut handles.made, number)? {
+            call_on_made(calls, &mut file, call, word, answers)?;
+            return put_back(&mut handles.made, number, file);
+        }
+    } else if let Some(mut file) = taken(&mut handles.opened, number)? {
+        call_on_opened(calls, &mut file, call, word, answers)?;
+        return put_back(&mut handles.opened, number, file);
+    }
+    writeln!(answers, "no handle")?;
+    Ok(())
+}
+
+/// The three words of a line.
+fn words_of(line: &str) -> Option<(&str, &str, &str)> {
+    let (call, rest) = line.split_once(' ')?;
+    let (number, word) = rest.split_once(' ')?;
+    Some((call, number, word))
+}
+
+/// Makes the calls of a list, and adds the answers.
+fn play<C: FileCalls + Drop>(
+    alloc: Global,
+    mut calls: C,
+    list: &str,
+    answers: &mut Vec<u8>,
+) -> Result<()> {
+    let mut handles = Handles {
+        made: Vec::new(alloc),
+        opened: Vec::new(alloc),
+    };
+    for line in list.lines() {
+        let Some(words) = words_of(line) else {
+            return Err(Trouble::Other);
+        };
+        call_line(&mut calls, &mut handles, words, answers)?;
+    }
+    answers.extend_from_slice(NEXT.as_bytes())?;
+    Ok(())
+}
+
+/// Makes the calls of a list on the machine or in memory.
+fn play_on(rt: &HostRuntime, system: &str, list: &str, answers: &mut Vec<u8>) -> Result<()> {
+    let Some((folder, list)) = list.split_once('\n') else {
+        return Err(Trouble::Other);
+    };
+    if system == "memory" {
+        let folder = String::from_str(rt.alloc(), folder)?;
+        return play(
+            rt.alloc(),
+            MemoryCalls::new(rt.alloc(), folder),
+            list,
+            answers,
+        );
+    }
+    let refusals = Refusals::new(rt.alloc(), None);
+    let system = System::new(rt, &refusals);
+    play(rt.alloc(), HostCalls { system: &system }, list, answers)
+}
+
+/// Makes the calls of each list of a file, and prints the answers. The first line of a list is its folder, which holds
+/// each path of it.
+pub fn play_lists(rt: &HostRuntime, system: &str, lists: &str) -> Result<()> {
+    let text = fs::read_to_string(rt, lists)?;
+    let mut answers = Vec::new(rt.alloc());
+    for list in text.as_str().split(NEXT) {
+        play_on(rt, system, list, &mut answers)?;
+    }
+    rt.stdout().write_all(&answers)?;
+    Ok(())
+}
