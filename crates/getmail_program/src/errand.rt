@@ -15,7 +15,7 @@ ghost use Rattle.getmail_setup.specs.{
   declared.journal.Subject.Subject,
 };
 ghost use Rattle.getmail_program.specs.{
-  Fetching.{FetchesAt, TellsOf},
+  Fetching.{FetchesAt, HoldsSetup, TellsOf},
   Holding.{HoldsSession, holding_of},
   Noticing.{TakesEach, obstruction_lines, refusal_lines, rests_lines, unflushed_lines},
   Telling.{TellsAll, counts_of},
@@ -219,19 +219,10 @@ fn note_left_out<W: Wire, S: Write, E>(
 /// Runs one session of the account over the link, or only previews it. What it says is written to `out`; then the
 /// line of the fault that cut it, and what else is told of it, to standard error. If not all was written to `out`, the
 /// exit status is 1.
-pub fn fetch_into<
-    R: Files + AllocGlobal,
-    W: Wire,
-    S: Write,
-    D: MaildirDisk,
-    F: FlatFile,
-    H: BuildHasher,
-    O: Write,
-    E: Write,
->(
-    system: &System<'_, R>,
-    account: &mut Account<D, F, H>,
-    wire: &mut ShownWire<W, S>,
+pub fn fetch_into<W: Wire, D: MaildirDisk, F: FlatFile, O: Write, E: Write>(
+    system: &System<'_, impl Files + AllocGlobal>,
+    account: &mut Account<D, F, impl BuildHasher>,
+    wire: &mut ShownWire<W, impl Write>,
     terms: RunTerms<'_>,
     out: &mut Output<O>,
     errors: &mut Errors<'_, E>,
@@ -321,4 +312,33 @@ where
     };
     finish(alloc, devices, &left, rests, &mut errors);
     left.into_status()
+}
+
+/// Does what `fetch_at` does, and says less of it: nothing of its devices, and of its words only what the status tells.
+/// At the machine's devices all that `fetch_at` says is too large a term.
+pub fn fetch_setup<'a, R, M, E, W, H, O>(
+    rt: &R,
+    devices: &M,
+    errand: Errand<'a>,
+    link: Connected<W, H>,
+    out: O,
+    errors: Errors<'_, E>,
+) -> u8
+where
+    R: Files + AllocGlobal,
+    M: Devices<'a>,
+    E: Write + Copy + Drop,
+    W: Wire + Drop,
+    H: BuildHasher + Drop,
+    O: Write + Drop,
+    requires { IsValid errand.settings }
+    ensures within { result ≤ 1 }
+    ensures holds { HoldsSetup W.Wire M.Maildir.MaildirDisk M.File.FlatFile (record {
+      settings = errand.entry.settings;
+      paths = errand.entry.paths.now;
+      pretends = errand.entry.pretends;
+    }) result }
+{
+    let mut out = Output::new(out);
+    fetch_at(rt, devices, errand, link, &mut out, errors)
 }

@@ -21,7 +21,7 @@ mod transcript;
 
 pub use devices::{Devices, HostDevices};
 pub use ending::Fetched;
-pub use errand::{Connected, Errand, fetch_at, fetch_into};
+pub use errand::{Connected, Errand, fetch_at, fetch_into, fetch_setup};
 pub use fetch::Machine;
 pub use rehearsal::rehearse;
 pub use start::{arguments, obey_command_line};

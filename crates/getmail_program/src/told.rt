@@ -118,18 +118,10 @@ fn note_plan(terms: &RunTerms<'_>, plan: &[Step]) {
 }
 
 /// Previews a session of the account over the link, wipes the line of progress, and writes what a run would do.
-fn hold_preview<
-    R: Files + AllocGlobal,
-    W: Wire,
-    S: Write,
-    D: MaildirDisk,
-    F: FlatFile,
-    H: BuildHasher,
-    O: Write,
->(
-    system: &System<'_, R>,
-    account: &mut Account<D, F, H>,
-    wire: &mut ShownWire<W, S>,
+fn hold_preview<W: Wire, D: MaildirDisk, F: FlatFile, O: Write>(
+    system: &System<'_, impl Files + AllocGlobal>,
+    account: &mut Account<D, F, impl BuildHasher>,
+    wire: &mut ShownWire<W, impl Write>,
     terms: RunTerms<'_>,
     out: &mut Output<O>,
 ) -> Told
@@ -150,18 +142,10 @@ fn hold_preview<
 
 /// Runs one session of the account over the link, or only previews it, and wipes the line of progress. What it
 /// says is written to `out`: of a report the first line and those of its messages as they come, up to a deletion.
-pub fn hold<
-    R: Files + AllocGlobal,
-    W: Wire,
-    S: Write,
-    D: MaildirDisk,
-    F: FlatFile,
-    H: BuildHasher,
-    O: Write,
->(
-    system: &System<'_, R>,
-    account: &mut Account<D, F, H>,
-    wire: &mut ShownWire<W, S>,
+pub fn hold<W: Wire, D: MaildirDisk, F: FlatFile, O: Write>(
+    system: &System<'_, impl Files + AllocGlobal>,
+    account: &mut Account<D, F, impl BuildHasher>,
+    wire: &mut ShownWire<W, impl Write>,
     terms: RunTerms<'_>,
     out: &mut Output<O>,
 ) -> Told
