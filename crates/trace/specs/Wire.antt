@@ -38,10 +38,10 @@ pub record BeginsTrace {E : Type 0} (err : Option E) (talk : Option Talk) (passw
   pub lines : trace.lines ≡ 0
   pub octets : trace.octets ≡ 0
 
--- a link is traced if there is a writer or a place for what is said, and this password is hidden
+-- a link is traced exactly if there is a writer or a place for what is said, and this password is hidden
 abbrev pub IsTraced : {W E : Type 0} → Option E → Option Talk → Option (List ℕ) → TracedWire W E → Type 0
-IsTraced err talk password link =
-    MatchOption link.trace ((err ≡ None) × (talk ≡ None)) (λ trace. BeginsTrace err talk password trace)
+IsTraced err talk password link = MatchOption link.trace ((err ≡ None) × (talk ≡ None))
+    (λ trace. (err ≡ None → talk ≡ None → ⊥) × BeginsTrace err talk password trace)
 
 -- more of a body came: its lines and its octets are counted, if there is a writer
 abbrev pub Counts : {E : Type 0} → Trace E → List ℕ → ℕ → Trace E → Type 0
