@@ -58,6 +58,7 @@ EXCUSES = {
     "SyncsNames": "the file system flushes no folders, which ends the premise",
     "FlushesNames": "the file system flushes no folders, which ends the premise",
     "FlushesNamesIn": "the file system flushes no folders, which ends the premise",
+    "Creates": "the place where files are made isn't there",
     "Makes": "the place where files are made isn't there",
     "WereTaken": "mail readers took files away",
     "Moved": "others moved, marked or took away files, or put what can't be opened beside them",
