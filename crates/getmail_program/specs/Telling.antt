@@ -95,7 +95,7 @@ SaysLeftOut settings true (Done report) line =
     (line ≡ left_out_line settings report.left_out) ⊎ (line ≡ codes "getmail: out of memory\n")
 SaysLeftOut settings asked told line = line ≡ []
 
--- a session was cut for want of memory, which the line of its fault says
+-- a session was cut because memory ran out, which the line of its fault says
 abbrev pub lacks_memory : Outcome → Bool
 lacks_memory (Cut OutOfMemory) = true
 lacks_memory outcome = false

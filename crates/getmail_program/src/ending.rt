@@ -71,7 +71,7 @@ fn tell_cut<E: Write>(
     }
 }
 
-/// Whether a session was cut for want of memory, which the line of its fault says.
+/// Whether a session was cut because memory ran out, which the line of its fault says.
 fn lacks_memory(outcome: &Outcome) -> bool
     ensures { result ≡ lacks_memory outcome.now }
 {

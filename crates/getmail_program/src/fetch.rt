@@ -59,7 +59,7 @@ struct Ready {
     lock: Lock,
 }
 
-/// Prepares a run, so that nothing is refused for want of memory between the connection and the session.
+/// Prepares a run, so that memory doesn't run out between the connection and the session.
 fn prepare<'a, R: RandomSource + AllocGlobal>(
     rt: &R,
     process: Process,

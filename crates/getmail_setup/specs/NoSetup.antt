@@ -21,7 +21,7 @@ home_of (Ok home) = Ok (Some home)
 home_of (Err OutOfMemory) = Err NoMemory
 home_of (Err error) = Ok None
 
--- memory ran out, or a path isn't known, for want of HOME
+-- memory ran out, or a path isn't known, since HOME isn't set
 abbrev pub HasNoPath : Option (List ℕ) → Failure → Type 0
 HasNoPath path NoHome = path ≡ None
 HasNoPath path NoMemory = Unit {0}

@@ -20,7 +20,7 @@ fn want_of_memory_is_no_refusal(rt: HostRuntime) {
     assert!(rt; refusals.take().is_none());
 }
 
-/// What the system refuses for want of memory is its refusal.
+/// What the system refuses because it has no memory is its refusal.
 #[test]
 fn the_systems_want_of_memory_is_a_refusal(rt: HostRuntime) {
     let refusals = Refusals::new(rt.alloc(), None);
