@@ -1,5 +1,5 @@
 //! What was said in a conversation, to tell where it went wrong.
-ghost use Rattle.std.specs.Prelude.{OnOk};
+ghost use Rattle.std.specs.Prelude.{◌⊎◌, OnOk};
 ghost use Rattle.trace.specs.Talk.{IsSilent, KeepsSpoken};
 
 use crate::masking::Shown;
@@ -52,8 +52,7 @@ impl Said {
         }
     }
 
-    /// A part was said after a command that asked for this. If there is no memory for it, nothing of all that was said
-    /// is to be used any more: a part that is older would be told as the last one.
+    /// A part was said after a command that asked for this.
     fn add(
         &mut self,
         alloc: Global,
@@ -85,6 +84,18 @@ impl Said {
         }
         Ok(())
     }
+
+    /// What is kept once a part was said after a command that asked for this. Without memory for it nothing is: a part
+    /// that is older would be told as the last one.
+    fn with(self, alloc: Global, asked: Option<Asked>, spoken: &Spoken<'_>) -> Said
+        ensures { KeepsSpoken self asked spoken.now result ⊎ IsSilent result }
+    {
+        let mut said = self;
+        match said.add(alloc, asked, spoken) {
+            Ok(()) => said,
+            Err(_) => Said::new(alloc),
+        }
+    }
 }
 
 /// Where it is kept what was said, until it is asked for.
@@ -103,12 +114,9 @@ impl Talk {
         }
     }
 
-    /// A part was said after a command that asked for this. Without memory all is forgotten.
+    /// A part was said after a command that asked for this.
     pub(crate) fn note(&self, asked: Option<Asked>, spoken: &Spoken<'_>) {
-        let mut said = self.take();
-        if said.add(self.alloc, asked, spoken).is_ok() {
-            self.said.set(said);
-        }
+        self.said.set(self.take().with(self.alloc, asked, spoken));
     }
 
     /// What was said. It is taken out.
