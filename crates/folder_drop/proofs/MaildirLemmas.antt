@@ -4,7 +4,7 @@ use Rattle.std.{
   proofs.Common.{length, get_or, refl, ap, sym, subst, take, ◌∙◌, ⊎_elim, arith, All, Contains, false},
   proofs.lemmas.{Bool.{cases_lt, cond-true, cond_both, false≢true}, Slice.Eq.bytes_eq-Decides, Cmp.nat_list_cmp_total},
   proofs.lemmas.List.{get_or-map, length-append, length-map, length_push, map_push, take_more},
-  proofs.lemmas.List.Elements.{All-push, Contains-append_left, Contains-get_or, Contains-push, Contains-push_cases},
+  proofs.lemmas.List.Elements.{All-push, All-weaker, Contains-append_left, Contains-get_or, Contains-push, Contains-push_cases},
   proofs.lemmas.{List.{MinMax.ranks_by, Sorted.sorted_far}, Map.Lookups.exact_bytes},
   proofs.{Math.{ListN.get_or-append, Seq.get_or-append_seam}, lemmas.Option.IfSome_then},
   specs.{Iterator.Yields, Vec.Iter.{into_iter_items, into_iter_steps}, declared.vec.IntoIter.IntoIter},
@@ -26,7 +26,7 @@ use Rattle.folder_drop.specs.{
   },
   CountedSizes.{ComeFrom, WasCounted},
   Listing.{same_key, bases_of, listed_ids, AreListed, AreSeen, FollowsLast, HasNoOther, IsAccountedFor, IsBeforeLast, IsPassedOver},
-  Listing.{IsUnfit, IsUnseen, MayBeListed, size_of_entry, size_of_file},
+  Listing.{IsMeasured, IsUnfit, IsUnseen, ListsFound, MayBeListed, size_of_entry, size_of_file},
   MaildirNames.{IsIdKey, id_of, digest_length},
   Places.{AreInOrder, base_of_file},
   RealMaildir.{HaveIds, IsBefore, id_of_name, listed_name, listed_names, uid_of},
@@ -327,3 +327,33 @@ passed_among remaining found opened told some all file among passed = (
   passed.0,
   ⊎_elim inl (λ unfit. inr (unfit_among remaining found opened told some all file passed.0 among unfit)) passed.1,
 )
+
+pub measured_among : {File : Type 0} (remaining : File → Option (List ℕ)) (found : FileWay → Found → Type 0)
+    (opened : FileWay → FileNumber → File → Type 0) (told : List PlacedFile → Type 0) (some all : List ListedFile)
+    (file : PlacedFile) (measured : Stamp × ℕ) → ComeFrom some all → IsMeasured remaining found opened told some file measured
+    → IsMeasured remaining found opened told all file measured
+measured_among remaining found opened told some all file measured among is = record {
+  seen = is.seen;
+  stamp = is.stamp;
+  size = ⊎_elim (λ was. inl (counted_among some all file measured.0 measured.1 among was)) inr is.size;
+}
+
+-- files that are among those that were found are so among more
+pub found_still : (IsSo : PlacedFile → Stamp × ℕ → Type 0) (before rest : List PlacedFile) (files : List ListedFile)
+    → All (ListsFound IsSo before) files → All (ListsFound IsSo (before ++ rest)) files
+found_still IsSo before rest files = All-weaker (ListsFound IsSo before) (ListsFound IsSo (before ++ rest))
+    (λ listed (is : ListsFound IsSo before listed). record {
+      file = is.file;
+      there = Contains-append_left before rest is.file is.there;
+      folder = is.folder;
+      name = is.name;
+      measured = is.measured;
+    }) files
+
+-- what was found before, and what comes yet, is all that was found
+pub found_among : {Z : Type 0} (IsSo : PlacedFile → Stamp × ℕ → Type 0) (found : List PlacedFile)
+    (s : IntoIter PlacedFile Z) (before : List PlacedFile) (t : IntoIter PlacedFile Z) (files : List ListedFile)
+    → into_iter_items s ≡ found → Yields into_iter_steps s before t → All (ListsFound IsSo before) files
+    → All (ListsFound IsSo found) files
+found_among IsSo found s before t files is given all = subst (λ (every : List PlacedFile). All (ListsFound IsSo every) files)
+    (sym (taken_front s before t given) ∙ is) (found_still IsSo before (into_iter_items t) files all)

@@ -16,7 +16,7 @@ use Rattle.folder_drop.specs.{
     seen_files.SeenFiles.SeenFiles,
   },
   CountedSizes.WasCounted,
-  Finding.{IsLeftOut, TellsStamp},
+  Finding.{IsLeftOut, IsSizeNow, TellsStamp},
   Places.base_of_file,
   MaildirNames.{digest_length, IsIdKey, id_of},
   RealMaildir.{AreAscending, IsBefore, id_of_name, listed_names},
@@ -86,6 +86,25 @@ pub record MayBeListed {Z S : Type 0} (seen : HashSet (Vec ℕ Z) S) (files : Li
   pub behind : FollowsLast files name
   pub is_key : IsIdKey key (id_of name)
   pub unseen : IsUnseen seen key
+
+-- a regular file that was found had this length and time of change, and has this size: as it was counted before, or as
+-- it was read
+pub record IsMeasured {File : Type 0} (remaining : File → Option (List ℕ)) (found : FileWay → Found → Type 0)
+    (opened : FileWay → FileNumber → File → Type 0) (told : List PlacedFile → Type 0) (earlier : List ListedFile)
+    (file : PlacedFile) (measured : Stamp × ℕ) : Type 0 where
+  pub seen : SeenFiles
+  pub stamp : TellsStamp found told seen (base_of_file file) (Some measured.0)
+  pub size : WasCounted earlier file measured.0 measured.1
+      ⊎ IsSizeNow remaining found opened (base_of_file file) measured.1
+
+-- a listed file is one of those that were found, measured so
+pub record ListsFound (IsSo : PlacedFile → Stamp × ℕ → Type 0) (found : List PlacedFile) (listed : ListedFile)
+    : Type 0 where
+  pub file : PlacedFile
+  pub there : Contains found file
+  pub folder : listed.folder ≡ file.folder
+  pub name : listed.name ≡ file.name
+  pub measured : IsSo file (listed.stamp, listed.size)
 
 -- a regular file that was found is gone or above the limit, by its stamp and the size that was counted for it, or read
 abbrev pub IsUnfit : {File : Type 0} → (File → Option (List ℕ)) → (FileWay → Found → Type 0)

@@ -3,7 +3,7 @@ ghost use Rattle.std.specs.Prelude.{◌≡◌, ◌≤◌, ◌<◌, All, IfNone, 
 ghost use Rattle.mail_terms.specs.Distinct.{AreDistinct};
 ghost use Rattle.folder_drop.specs.{
   CountedSizes.ComeFrom,
-  Listing.{AreListed, IsAccountedFor, IsPassedOver},
+  Listing.{AreListed, IsAccountedFor, IsMeasured, IsPassedOver, ListsFound},
   Places.AreInOrder,
   RealMaildir.{AreAscending, HaveIds, uid_of},
 };
@@ -33,6 +33,8 @@ fn measure<D: MailFiles>(
 ) -> io::Result<Option<(Stamp, u64)>>
     requires { 0 < length piece.old }
     ensures within { IfOk result (λ told. IfSome told (λ it. it.1 ≤ MAX_SIZE)) }
+    ensures some { IfOk result (λ told. IfSome told (IsMeasured D.File.remaining (D.found files.now)
+        (D.opened files.now) (D.told files.now) counted.old.files.now file.now)) }
     ensures none { IfOk result (λ told. IfNone told (IsPassedOver D.File.remaining (D.found files.now)
         (D.opened files.now) (D.told files.now) counted.old.files.now file.now)) }
     ensures rest { ComeFrom counted.new.files.now counted.old.files.now }
@@ -59,6 +61,8 @@ fn list_among<D: MailFiles>(
 ) -> io::Result<ListedFiles>
     requires { AreInOrder found.items }
     ensures listed { IfOk result (λ listed. AreListed listed.long_ids listed.files.items) }
+    ensures found { IfOk result (λ listed. All (ListsFound (IsMeasured D.File.remaining (D.found files.now)
+        (D.opened files.now) (D.told files.now) earlier.now) found.items) listed.files.items) }
     ensures whole { IfOk result (λ listed. All (IsAccountedFor (IsPassedOver D.File.remaining (D.found files.now)
         (D.opened files.now) (D.told files.now) earlier.now) listed.files.items) found.items) }
 {

@@ -1,6 +1,6 @@
 use Rattle.std.proofs.{
   Common.{◌≡◌, ◌≤◌, ◌∙◌, ◌++◌, ◌∷◌, [], All, Contains, List, ap, arith, inl, inr, refl, subst, sym},
-  lemmas.{Bool.false≢true, List.Elements.{All-nil, All-push}, List.map-id},
+  lemmas.{Bool.false≢true, List.Elements.{All-nil, All-push, Contains-push}, List.map-id},
   lemmas.Iterator.{Adapters.YieldsList-from_vec, Consumers.YieldsList-end},
 }
 use Rattle.std.specs.Vec.Iter.{into_iter_items}
@@ -8,26 +8,31 @@ use Rattle.mail_terms.specs.MaildirName.{base}
 use Rattle.pop3_server.specs.Maildrop.{max_size}
 use Rattle.folder_drop.specs.{
   declared.{listed_file.ListedFile.ListedFile, maildir_names.PlacedFile.PlacedFile},
-  Listing.{FollowsLast, IsAccountedFor, IsBeforeLast, IsPassedOver},
+  Listing.{FollowsLast, IsAccountedFor, IsBeforeLast, IsMeasured, IsPassedOver, ListsFound},
   MaildirNames.{IsIdKey, id_of},
   Places.base_of_file,
   RealMaildir.listed_name,
 }
-use Rattle.folder_drop.proofs.MaildirLemmas.{LastIsOf, all_still, in_order_here, last_now, last_still, listed_long}
-use Rattle.folder_drop.proofs.MaildirLemmas.{none_last, now_listed, passed_among, same_as_last}
+use Rattle.folder_drop.proofs.MaildirLemmas.{LastIsOf, all_still, found_among, found_still, in_order_here, last_now, last_still}
+use Rattle.folder_drop.proofs.MaildirLemmas.{listed_long, measured_among, none_last, now_listed, passed_among, same_as_last}
 use Rattle.folder_drop.proofs.maildir_drop.listing.list_among.Goals as goal
 
 pub loop-file-init : goal.loop-file-init
-loop-file-init g c = (
-  c.in_ok-listed.ensures.listed,
-  none_last _ c.in_ok-listed.ensures.empty,
-  λ file there. subst (λ (files : List ListedFile). Contains files file) c.new-counted.ensures there,
-  All-nil _,
-)
+loop-file-init g c =
+    let IsSo = IsMeasured g.D.File.Read.remaining (g.D.MailFiles.found c.args.files.now)
+    (g.D.MailFiles.opened c.args.files.now) (g.D.MailFiles.told c.args.files.now) c.args.earlier.now in (
+      c.in_ok-listed.ensures.listed,
+      none_last _ c.in_ok-listed.ensures.empty,
+      λ file there. subst (λ (files : List ListedFile). Contains files file) c.new-counted.ensures there,
+      All-nil _,
+      subst (λ (files : List ListedFile). All (ListsFound IsSo []) files) (sym c.in_ok-listed.ensures.empty) (All-nil _),
+    )
 
 pub loop-file-preserved-then-not-is_behind : goal.loop-file-preserved-then-not-is_behind
 loop-file-preserved-then-not-is_behind g c =
     let Passed = IsPassedOver g.D.File.Read.remaining (g.D.MailFiles.found c.args.files.now)
+    (g.D.MailFiles.opened c.args.files.now) (g.D.MailFiles.told c.args.files.now) c.args.earlier.now in
+    let IsSo = IsMeasured g.D.File.Read.remaining (g.D.MailFiles.found c.args.files.now)
     (g.D.MailFiles.opened c.args.files.now) (g.D.MailFiles.told c.args.files.now) c.args.earlier.now in
     let known = c.loop-file.invariant in
     let files = c.loop-file.listed.files.items in
@@ -43,11 +48,14 @@ loop-file-preserved-then-not-is_behind g c =
       known.2,
       All-push (IsAccountedFor Passed files) before file known.3
           (inl (same_as_last files before (into_iter_items rest) file order known.1 behind)),
+      found_still IsSo before (file ∷ []) files known.4,
     )
 
 pub loop-file-preserved-then-not-is_unseen : goal.loop-file-preserved-then-not-is_unseen
 loop-file-preserved-then-not-is_unseen g c =
     let Passed = IsPassedOver g.D.File.Read.remaining (g.D.MailFiles.found c.args.files.now)
+    (g.D.MailFiles.opened c.args.files.now) (g.D.MailFiles.told c.args.files.now) c.args.earlier.now in
+    let IsSo = IsMeasured g.D.File.Read.remaining (g.D.MailFiles.found c.args.files.now)
     (g.D.MailFiles.opened c.args.files.now) (g.D.MailFiles.told c.args.files.now) c.args.earlier.now in
     let known = c.loop-file.invariant in
     let files = c.loop-file.listed.files.items in
@@ -60,6 +68,7 @@ loop-file-preserved-then-not-is_unseen g c =
       known.2,
       All-push (IsAccountedFor Passed files) before file known.3 (inl (listed_long c.loop-file.listed.long_ids files c.in_ok-long_id.long_id
           (base_of_file file) known.0 key (λ unseen. false≢true (c.if-not-is_unseen.ensures.1 unseen)))),
+      found_still IsSo before (file ∷ []) files known.4,
     )
 
 pub returns-then-is_full-clause-whole : goal.returns-then-is_full-clause-whole
@@ -70,6 +79,8 @@ returns-then-is_full-clause-whole g c = λ k d fits.
 pub loop-file-preserved-in-None-2 : goal.loop-file-preserved-in-None-2
 loop-file-preserved-in-None-2 g c =
     let Passed = IsPassedOver g.D.File.Read.remaining (g.D.MailFiles.found c.args.files.now)
+    (g.D.MailFiles.opened c.args.files.now) (g.D.MailFiles.told c.args.files.now) c.args.earlier.now in
+    let IsSo = IsMeasured g.D.File.Read.remaining (g.D.MailFiles.found c.args.files.now)
     (g.D.MailFiles.opened c.args.files.now) (g.D.MailFiles.told c.args.files.now) c.args.earlier.now in
     let known = c.loop-file.invariant in
     let files = c.loop-file.listed.files.items in
@@ -83,11 +94,14 @@ loop-file-preserved-in-None-2 g c =
       last_still files before file known.1,
       λ f there. known.2 f (c.measure.ensures.rest f there),
       All-push (IsAccountedFor Passed files) before file known.3 (inr (inr passed)),
+      found_still IsSo before (file ∷ []) files known.4,
     )
 
 pub loop-file-preserved : goal.loop-file-preserved
 loop-file-preserved g c =
     let Passed = IsPassedOver g.D.File.Read.remaining (g.D.MailFiles.found c.args.files.now)
+    (g.D.MailFiles.opened c.args.files.now) (g.D.MailFiles.told c.args.files.now) c.args.earlier.now in
+    let IsSo = IsMeasured g.D.File.Read.remaining (g.D.MailFiles.found c.args.files.now)
     (g.D.MailFiles.opened c.args.files.now) (g.D.MailFiles.told c.args.files.now) c.args.earlier.now in
     let known = c.loop-file.invariant in
     let files = c.loop-file.listed.files.items in
@@ -112,6 +126,17 @@ loop-file-preserved g c =
       subst (λ (all : List ListedFile). All (IsAccountedFor Passed all) (before ++ file ∷ [])) (sym added)
           (All-push (IsAccountedFor Passed (files ++ new ∷ [])) before file (all_still Passed files new before known.3)
           (inl (now_listed files new (base_of_file file) is_base))),
+      subst (λ (all : List ListedFile). All (ListsFound IsSo (before ++ file ∷ [])) all) (sym added)
+          (All-push (ListsFound IsSo (before ++ file ∷ [])) files new (found_still IsSo before (file ∷ []) files known.4)
+          (subst (λ (listed : ListedFile). ListsFound IsSo (before ++ file ∷ []) listed) (sym c.of.ensures) (record {
+            file = file;
+            there = Contains-push before file;
+            folder = refl;
+            name = refl;
+            measured = measured_among g.D.File.Read.remaining (g.D.MailFiles.found c.args.files.now)
+                (g.D.MailFiles.opened c.args.files.now) (g.D.MailFiles.told c.args.files.now) c.loop-file.counted.files.now
+                c.args.earlier.now file _ known.2 (rw c.in-Some-2.is at c.in_ok-measured.ensures.some);
+          }))),
     )
 
 pub returns-clause-whole : goal.returns-clause-whole
@@ -124,3 +149,19 @@ returns-clause-whole g c =
     c.loop-file.file-iterator c.loop-file.yielded_by c.next.result c.next.new.self c.in-None.is c.next.ensures.steps in
     subst (λ (files : List PlacedFile). All (IsAccountedFor Passed c.loop-file.listed.files.items) files)
     (sym (map-id c.loop-file.yielded) ∙ all.0) c.loop-file.invariant.3
+
+pub returns-then-is_full-clause-found : goal.returns-then-is_full-clause-found
+returns-then-is_full-clause-found g c =
+    let IsSo = IsMeasured g.D.File.Read.remaining (g.D.MailFiles.found c.args.files.now)
+    (g.D.MailFiles.opened c.args.files.now) (g.D.MailFiles.told c.args.files.now) c.args.earlier.now in
+    let it = c.into_iter-file-iterator in
+    found_among IsSo c.args.found.items it.result c.loop-file.yielded c.loop-file.file-iterator c.loop-file.listed.files.items
+    it.ensures.into_iter_gives.0 c.loop-file.yielded_by c.loop-file.invariant.4
+
+pub returns-clause-found : goal.returns-clause-found
+returns-clause-found g c =
+    let IsSo = IsMeasured g.D.File.Read.remaining (g.D.MailFiles.found c.args.files.now)
+    (g.D.MailFiles.opened c.args.files.now) (g.D.MailFiles.told c.args.files.now) c.args.earlier.now in
+    let it = c.into_iter-file-iterator in
+    found_among IsSo c.args.found.items it.result c.loop-file.yielded c.loop-file.file-iterator c.loop-file.listed.files.items
+    it.ensures.into_iter_gives.0 c.loop-file.yielded_by c.loop-file.invariant.4

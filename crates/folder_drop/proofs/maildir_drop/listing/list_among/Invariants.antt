@@ -1,6 +1,6 @@
 use Rattle.std.proofs.Common.{All}
 use Rattle.folder_drop.{
-  specs.{CountedSizes.ComeFrom, Listing.{AreListed, IsAccountedFor, IsPassedOver}},
+  specs.{CountedSizes.ComeFrom, Listing.{AreListed, IsAccountedFor, IsMeasured, IsPassedOver, ListsFound}},
   proofs.MaildirLemmas.LastIsOf,
 }
 use Rattle.folder_drop.proofs.maildir_drop.listing.list_among.Given as goal
@@ -10,3 +10,5 @@ invariant-loop-file g l = AreListed l.listed.long_ids l.listed.files.items × La
     × ComeFrom l.counted.files.now l.earlier
     × All (IsAccountedFor (IsPassedOver g.D.File.Read.remaining (g.D.MailFiles.found l.files) (g.D.MailFiles.opened l.files)
     (g.D.MailFiles.told l.files) l.earlier) l.listed.files.items) l.yielded
+    × All (ListsFound (IsMeasured g.D.File.Read.remaining (g.D.MailFiles.found l.files) (g.D.MailFiles.opened l.files)
+    (g.D.MailFiles.told l.files) l.earlier) l.yielded) l.listed.files.items
