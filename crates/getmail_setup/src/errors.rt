@@ -36,7 +36,10 @@ pub struct Reasons {
 
 impl Reasons {
     /// Nothing was refused yet.
-    pub fn new(alloc: Global, trace: Option<Stderr>) -> Reasons {
+    pub fn new(alloc: Global, trace: Option<Stderr>) -> Reasons
+        ensures { (result.before.trace.lines ≡ trace) × (result.store.trace.lines ≡ trace)
+            × (result.record.trace.lines ≡ trace) × (result.link.trace.lines ≡ trace) }
+    {
         Reasons {
             before: Refusals::new(alloc, trace),
             store: Refusals::new(alloc, trace),

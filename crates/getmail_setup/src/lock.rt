@@ -4,18 +4,18 @@ ghost use Rattle.std.specs.{
   String.string_bytes,
   declared.fs.{File.File, locks.TryLockError.TryLockError},
 };
-ghost use Rattle.getmail_setup.specs.Lock.{LocksAt, lock_of};
+ghost use Rattle.getmail_setup.specs.Lock.{Hinders, LocksAt, TellsLock, lock_of};
 
 use crate::clock::second_of;
 use crate::errors::{Errors, Reasons, tell_unlocked};
 use crate::setup::Setup;
 use std::alloc::Global;
-use std::fs::{File, OpenOptions, TryLockError};
+use std::fs::{File, Metadata, OpenOptions, TryLockError};
 use std::io::{self, ErrorKind, Write};
 use std::os::unix::fs::OpenOptionsExt;
 use std::rt::{Clock, Files};
 use std::time::SystemTime;
-use system_calls::System;
+use system_calls::{Denial, System};
 
 /// What became of a run's lock.
 #[derive(Drop)]
@@ -28,20 +28,25 @@ pub enum Lock {
     Without,
 }
 
-/// The lock's file, opened; it is made if there is none. Nothing but a regular file is opened: for another end
-/// of a pipe it would be waited.
+/// What keeps a lock's file from being opened, by what was found in its place. Nothing but a regular file is opened:
+/// for another end of a pipe it would be waited.
+fn hindrance(alloc: Global, path: &str, found: Result<Metadata, Denial>) -> Option<Denial>
+    ensures { Hinders found result }
+{
+    match found {
+        Ok(found) if !found.is_file() => Some(Denial::because(alloc, path, "not a regular file")),
+        Err(denial) if denial.kind() != ErrorKind::NotFound => Some(denial),
+        _ => None,
+    }
+}
+
+/// The lock's file, opened; it is made if there is none.
 fn open_lock<R: Files<File = File> + AllocGlobal>(
     system: &System<'_, R>,
     path: &str,
 ) -> io::Result<File> {
-    match system.lstat(path) {
-        Ok(found) if !found.is_file() => return Err(
-            system.refusals.refuse(path, "not a regular file"),
-        ),
-        Err(denial) if denial.kind() != ErrorKind::NotFound => {
-            return system.refusals.kept(Err(denial));
-        }
-        _ => {}
+    if let Some(denial) = hindrance(system.alloc(), path, system.lstat(path)) {
+        return system.refusals.kept(Err(denial));
     }
     let file = OpenOptions::new()
         .read(true)
@@ -150,6 +155,7 @@ pub fn take_lock<L: LockFiles, E: Write>(
     ensures none { setup.now.pretends ≡ true → result ≡ Lock.Without }
     ensures taken { setup.now.pretends ≡ false
         → LocksAt (L.opened locks.now) (L.asked locks.now) (string_bytes setup.now.paths.lock) result }
+    ensures told { TellsLock E.contents setup.now result errors.old errors.new }
 {
     if setup.pretends {
         return Lock::Without;
