@@ -1,4 +1,5 @@
 mod EarlyLemmas
+mod ErrandLemmas
 mod FindingsLemmas
 mod NewsLemmas
 mod OutputLemmas

@@ -12,7 +12,7 @@ use Rattle.mail_store.specs.declared.{
   file.flat_file.FlatFile.Ghosts as FileGhosts,
 }
 use Rattle.rc_file.specs.declared.settings.{Dest.Dest, Settings.Settings}
-use Rattle.fetch_session.specs.{Account.{Holding, IsSameAccount}, declared.{account.Store.Store, report.Report.Report}}
+use Rattle.fetch_session.specs.{Account.{Holding, IsSameAccount}, Hearing.IsPlanOf, declared.{account.Store.Store, report.Report.Report}}
 use Rattle.fetch_rules.specs.declared.plans.Step.{Step}
 use Rattle.getmail_setup.specs.{
   Clock.second_of,
@@ -54,6 +54,15 @@ pub record TellsOf {O E : Type 0} (out_contents : O → Option (List ℕ)) (err_
   pub tells : TellsAll out_contents err_contents errors.explains settings (string_bytes paths.destination)
       (string_bytes paths.record) IsPlan told out errors fetched out' errors'
   pub status_is : status ≡ fetched.status
+
+-- a session of an account over a link was held, or only previewed; what it said was written, and this came of it
+pub record FetchesInto {W D F O E : Type 0} (link : WireGhosts W) (disk : DiskGhosts D) (file : FileGhosts F)
+    (out_contents : O → Option (List ℕ)) (err_contents : E → Option (List ℕ)) (pretends explains : Bool) (now : ℕ)
+    (destination seen : List ℕ) (old : Holding D F) (wire : W) (told : Told) (new : Holding D F) (wire' : W)
+    (out : Output O) (errors : Errors E) (fetched : Fetched) (out' : Output O) (errors' : Errors E) : Type 0 where
+  pub holds : HoldsSession link disk file pretends now old wire told new wire'
+  pub tells : TellsAll out_contents err_contents explains old.settings destination seen
+      (IsPlanOf link disk file now old wire new wire') told out errors fetched out' errors'
 
 -- a session of a setup was held over some link, or only previewed; the status is 0 if it ended and all was written
 pub record HoldsSetup {W D F : Type 0} (link : WireGhosts W) (disk : DiskGhosts D) (file : FileGhosts F)

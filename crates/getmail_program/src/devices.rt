@@ -1,7 +1,6 @@
-//! The devices of a run, those on a machine's files, and the time there.
-ghost use Rattle.std.specs.{Prelude.{◌≡◌, ℕ, List, IsSomeAnd, Option, codes}, declared.time.SystemTime.SystemTime};
-ghost use Rattle.rc_file.specs.declared.settings.Dest.{Dest};
-ghost use Rattle.fetch_session.specs.{Target.{NoneBegun, kind_of}, declared.account.Store.Store};
+//! The devices of a run on a machine's files, and the time there.
+ghost use Rattle.std.specs.Prelude.{◌≡◌, IsSomeAnd, codes};
+ghost use Rattle.fetch_session.specs.Target.{NoneBegun, kind_of};
 ghost use Rattle.folder_store.specs.HostPaths.{AreInMaildir, IsFileAt};
 ghost use Rattle.getmail_program.specs.{Devices.StoreIs, Holding.kind_in};
 
@@ -14,61 +13,10 @@ use std::rt::{Clock, Files};
 use std::time::SystemTime;
 use system_calls::System;
 
-/// What makes the devices of a run.
-pub trait Devices<'a> {
-    type Maildir: MaildirDisk + Drop;
+/// A file of a run on a machine, and its store.
+pub type MachineFile<'a, R> = HostFile<'a, HostFolder<'a, R>>;
 
-    type File: FlatFile + Drop;
-
-    // It made this store for a destination at a path, and for what is cut off from it at another path.
-    ghost made_store: { Self → Dest → List ℕ → List ℕ → Store Self.Maildir Self.File → Type 0 };
-
-    // It made this file of a record at a path.
-    ghost made_record: { Self → List ℕ → Self.File → Type 0 };
-
-    // Its clock showed this time, or couldn't be read.
-    ghost showed: { Self → Option SystemTime → Type 0 };
-
-    /// The store of a run.
-    fn store(&self, dest: &Dest, path: &'a str, rests: &'a str) -> Store<Self::Maildir, Self::File>
-        ensures made { made_store self.now dest.now path.now rests.now result }
-        ensures kind { kind_of result ≡ kind_in dest.now }
-        ensures none_begun { NoneBegun Self.Maildir.MaildirDisk Self.File.FlatFile result };
-
-    /// The file of its record.
-    fn record_file(&self, path: &'a str) -> Self::File
-        ensures { made_record self.now path.now result };
-
-    /// What its clock shows, if it can be read.
-    fn time(&self) -> Option<SystemTime>
-        ensures { showed self.now result };
-
-    /// Whether something is kept of what was cut off from an mboxrd file and isn't known to have been a part of an
-    /// entry that was appended since. If it is known, it is removed. Of what an earlier run cut off, a run that had
-    /// nothing to fetch says no.
-    fn keeps_rests(&self, store: &Store<Self::Maildir, Self::File>, is_idle: bool) -> bool;
-
-    /// What bears the names of messages in a Maildir and can't be opened: the path of each, and why.
-    fn obstructions<'b>(&self, store: &'b Store<Self::Maildir, Self::File>) -> &'b [Vec<u8>];
-
-    /// Whether a delivery into a Maildir was refused because something that is no file has its name.
-    fn is_name_taken(&self, store: &Store<Self::Maildir, Self::File>) -> bool;
-
-    /// The path of a folder whose names weren't flushed because the system flushes no folders, if there is one.
-    fn unflushed(
-        &self,
-        store: &Store<Self::Maildir, Self::File>,
-        seen_file: &Self::File,
-    ) -> Option<String>;
-
-    /// Removes what killed runs of an account left.
-    fn sweep(
-        &self,
-        settings: &Settings,
-        store: &Store<Self::Maildir, Self::File>,
-        seen_file: &Self::File,
-    );
-}
+pub type MachineStore<'a, R> = Store<HostMaildir<'a, R>, MachineFile<'a, R>>;
 
 /// What makes devices on a machine's files, with the mark of a process. Calls that the system refuses are noted.
 #[derive(Drop)]
@@ -78,29 +26,20 @@ pub struct HostDevices<'a, R> {
     pub mark: ProcessMark,
 }
 
-impl<'a, R: Files + Clock + AllocGlobal + Clone + Drop> Devices<'a> for HostDevices<'a, R> {
-    type Maildir = HostMaildir<'a, R>;
-
-    type File = HostFile<'a, HostFolder<'a, R>>;
-
-    ghost made_store = { λ _ _ path rests store. StoreIs
-        (λ maildir. AreInMaildir maildir.folders.new_folder.host.paths path (codes "new")
-        × AreInMaildir maildir.folders.cur_folder.host.paths path (codes "cur"))
-        (λ mbox. IsFileAt mbox.folder.paths mbox.name.now path
-        × IsSomeAnd mbox.cut_off (λ kept. IsFileAt kept.folder.paths kept.name.now rests)) store };
-
-    ghost made_record = { λ _ path file. IsFileAt file.folder.paths file.name.now path };
-
-    ghost showed = { λ _ _. Unit {0} };
-
-    /// An entry of an mboxrd file is flushed once: what a loss of power left of one is found and cut off by the next
-    /// run, and is kept beside the record.
-    fn store(
-        &self,
-        dest: &Dest,
-        path: &'a str,
-        rests: &'a str,
-    ) -> Store<Self::Maildir, Self::File> {
+impl<'a, R: Files + Clock + AllocGlobal + Clone + Drop> HostDevices<'a, R> {
+    /// The store of a run, for a destination at a path, and for what is cut off from it at another path. An entry of an
+    /// mboxrd file is flushed once: what a loss of power left of one is found and cut off by the next run, and is kept
+    /// beside the record.
+    pub fn store(&self, dest: &Dest, path: &'a str, rests: &'a str) -> MachineStore<'a, R>
+        ensures made { StoreIs
+            (λ maildir. AreInMaildir maildir.folders.new_folder.host.paths path.now (codes "new")
+            × AreInMaildir maildir.folders.cur_folder.host.paths path.now (codes "cur"))
+            (λ mbox. IsFileAt mbox.folder.paths mbox.name.now path.now
+            × IsSomeAnd mbox.cut_off (λ kept. IsFileAt kept.folder.paths kept.name.now rests.now)) result }
+        ensures kind { kind_of result ≡ kind_in dest.now }
+        ensures none_begun { NoneBegun ⟦<HostMaildir<'a, R> as MaildirDisk>⟧
+            ⟦<MachineFile<'a, R> as FlatFile>⟧ result }
+    {
         let (system, mark) = (self.for_store, self.mark);
         match dest {
             Dest::Maildir(_) => Store::Maildir(HostMaildir::at(system, path, mark)),
@@ -108,15 +47,22 @@ impl<'a, R: Files + Clock + AllocGlobal + Clone + Drop> Devices<'a> for HostDevi
         }
     }
 
-    fn record_file(&self, path: &'a str) -> Self::File {
+    /// The file of its record.
+    pub fn record_file(&self, path: &'a str) -> MachineFile<'a, R>
+        ensures { IsFileAt result.folder.paths result.name.now path.now }
+    {
         HostFile::by_blocks(self.for_record, path, self.mark)
     }
 
-    fn time(&self) -> Option<SystemTime> {
+    /// What its clock shows, if it can be read.
+    pub fn time(&self) -> Option<SystemTime> {
         SystemTime::now(self.for_store.rt).ok()
     }
 
-    fn keeps_rests(&self, store: &Store<Self::Maildir, Self::File>, is_idle: bool) -> bool {
+    /// Whether something is kept of what was cut off from an mboxrd file and isn't known to have been a part of an
+    /// entry that was appended since. If it is known, it is removed. Of what an earlier run cut off, a run that had
+    /// nothing to fetch says no.
+    pub fn keeps_rests(&self, store: &MachineStore<'a, R>, is_idle: bool) -> bool {
         let Store::Mboxrd(mbox) = store else {
             return false;
         };
@@ -124,24 +70,27 @@ impl<'a, R: Files + Clock + AllocGlobal + Clone + Drop> Devices<'a> for HostDevi
         mbox.keeps_others() || (!is_idle && mbox.has_rests())
     }
 
-    fn obstructions<'b>(&self, store: &'b Store<Self::Maildir, Self::File>) -> &'b [Vec<u8>] {
+    /// What bears the names of messages in a Maildir and can't be opened: the path of each, and why.
+    pub fn obstructions<'b>(&self, store: &'b MachineStore<'a, R>) -> &'b [Vec<u8>] {
         match store {
             Store::Maildir(maildir) => maildir.obstructions(),
             Store::Mboxrd(_) => &[],
         }
     }
 
-    fn is_name_taken(&self, store: &Store<Self::Maildir, Self::File>) -> bool {
+    /// Whether a delivery into a Maildir was refused because something that is no file has its name.
+    pub fn is_name_taken(&self, store: &MachineStore<'a, R>) -> bool {
         match store {
             Store::Maildir(maildir) => maildir.is_name_taken(),
             Store::Mboxrd(_) => false,
         }
     }
 
-    fn unflushed(
+    /// The path of a folder whose names weren't flushed because the system flushes no folders, if there is one.
+    pub fn unflushed(
         &self,
-        store: &Store<Self::Maildir, Self::File>,
-        seen_file: &Self::File,
+        store: &MachineStore<'a, R>,
+        seen_file: &MachineFile<'a, R>,
     ) -> Option<String> {
         let in_store = match store {
             Store::Maildir(maildir) => maildir.unflushed(),
@@ -153,11 +102,12 @@ impl<'a, R: Files + Clock + AllocGlobal + Clone + Drop> Devices<'a> for HostDevi
         }
     }
 
-    fn sweep(
+    /// Removes what killed runs of an account left.
+    pub fn sweep(
         &self,
         settings: &Settings,
-        store: &Store<Self::Maildir, Self::File>,
-        seen_file: &Self::File,
+        store: &MachineStore<'a, R>,
+        seen_file: &MachineFile<'a, R>,
     ) {
         if let Store::Maildir(maildir) = store {
             maildir.sweep(&account_of(settings));

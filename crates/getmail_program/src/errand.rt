@@ -1,6 +1,6 @@
 //! A run over devices that are made for it.
 ghost use Rattle.std.specs.{
-  Prelude.{◌≡◌, ◌≤◌, ◌==◌, ◌&&◌, ℕ, List, Option, Some, is_some, not, option_map},
+  Prelude.{◌≡◌, ◌≤◌, ◌==◌, ◌&&◌, ℕ, IsSomeAnd, List, Option, Some, codes, is_some, not, option_map},
   String.string_bytes,
   declared.time.SystemTime.SystemTime,
 };
@@ -14,19 +14,22 @@ ghost use Rattle.getmail_setup.specs.{
   Progress.{IsShownOn, screen_for},
   declared.journal.Subject.Subject,
 };
+ghost use Rattle.folder_store.specs.HostPaths.{AreInMaildir, IsFileAt};
 ghost use Rattle.getmail_program.specs.{
-  Fetching.{FetchesAt, HoldsSetup, TellsOf},
+  Devices.StoreIs,
+  Fetching.{FetchesAt, FetchesInto, TellsOf},
   Holding.{HoldsSession, holding_of},
   Noticing.{TakesEach, obstruction_lines, refusal_lines, rests_lines, unflushed_lines},
   Telling.{TellsAll, counts_of},
   declared.told.Told.Told,
 };
 
-use crate::devices::Devices;
+use crate::devices::{HostDevices, MachineFile, MachineStore};
 use crate::ending::{Fetched, tell_all};
 use crate::told::{RunTerms, Told, hold};
 use fetch_rules::Settings;
 use fetch_session::{Account, Report, Store};
+use folder_store::HostMaildir;
 use getmail_setup::{Errors, Output, Paths, Reasons, ShownWire, Subject, second_of, tell_reason};
 use mail_store::{FlatFile, MaildirDisk};
 use pop3_wire::Wire;
@@ -34,7 +37,7 @@ use run_memory::Counts;
 use std::alloc::Global;
 use std::hash::BuildHasher;
 use std::io::Write;
-use std::rt::Files;
+use std::rt::{Clock, Files};
 use system_calls::System;
 
 /// What a run is to do: with these settings, at these paths.
@@ -136,10 +139,10 @@ fn tell_unflushed<N: Notices>(settings: &Settings, path: Option<String>, notices
 
 /// Why a delivery into a Maildir was refused because something that is no file has its name, unless that was told as
 /// the fault's reason.
-fn name_refusal<'a, M: Devices<'a>>(
+fn name_refusal<'a, R: Files + Clock + AllocGlobal + Clone + Drop>(
     alloc: Global,
-    devices: &M,
-    store: &Store<M::Maildir, M::File>,
+    devices: &HostDevices<'a, R>,
+    store: &MachineStore<'a, R>,
     reasons: &Reasons,
 ) -> Option<Vec<u8>> {
     if !devices.is_name_taken(store) {
@@ -150,10 +153,10 @@ fn name_refusal<'a, M: Devices<'a>>(
 
 /// Tells what a run left that somebody should look at, and removes what killed runs left, unless the run had nothing to
 /// fetch.
-fn finish<'a, M: Devices<'a>, E: Write>(
+fn finish<'a, R: Files + Clock + AllocGlobal + Clone + Drop, E: Write>(
     alloc: Global,
-    devices: &M,
-    left: &RunEnd<M::Maildir, M::File>,
+    devices: &HostDevices<'a, R>,
+    left: &RunEnd<HostMaildir<'a, R>, MachineFile<'a, R>>,
     rests: &str,
     errors: &mut Errors<'_, E>,
 ) {
@@ -250,19 +253,43 @@ pub fn fetch_into<W: Wire, D: MaildirDisk, F: FlatFile, O: Write, E: Write>(
     fetched
 }
 
-/// Runs one session over devices that are made for it, or only previews it, and returns the exit status. What it says
-/// goes to `out`, all else to standard error. The caller has drawn the hasher's keys and the mark of the files.
-pub fn fetch_at<'a, R, M, E, W, H, O>(
-    rt: &R,
-    devices: &M,
+/// Does what `fetch_into` does, into a Maildir in the machine's files. It is apart from `fetch_at` since what both types
+/// together, of the Maildir and of the record's file, are asked for is too large a term.
+fn fetch_mail<'a, R, W, F, O, E>(
+    system: &System<'a, R>,
+    account: &mut Account<HostMaildir<'a, R>, F, impl BuildHasher>,
+    wire: &mut ShownWire<W, impl Write>,
+    terms: RunTerms<'_>,
+    out: &mut Output<O>,
+    errors: &mut Errors<'_, E>,
+) -> Fetched
+where
+    R: Files + Clock + AllocGlobal + Clone + Drop + 'a,
+    W: Wire,
+    F: FlatFile,
+    O: Write,
+    E: Write,
+    ensures within { result.status ≤ 1 }
+    ensures same { IsSameAccount account.old account.new }
+    ensures fetched { (told : Told) × FetchesInto W.Wire ⟦<HostMaildir<'a, R> as MaildirDisk>⟧ F.FlatFile O.contents
+        E.contents terms.entry.pretends terms.entry.explains terms.entry.now terms.entry.destination.now
+        terms.entry.record.now account.old wire.old.wire told account.new wire.new.wire out.old errors.old result out.new
+        errors.new }
+{
+    fetch_into(system, account, wire, terms, out, errors)
+}
+
+/// Runs one session over the machine's files, or only previews it, and returns the exit status. What it says goes to
+/// `out`, all else to standard error. The caller has drawn the hasher's keys and the mark of the files.
+pub fn fetch_at<'a, R, E, W, H, O>(
+    devices: &HostDevices<'a, R>,
     errand: Errand<'a>,
     link: Connected<W, H>,
     out: &mut Output<O>,
     mut errors: Errors<'_, E>,
 ) -> u8
 where
-    R: Files + AllocGlobal,
-    M: Devices<'a>,
+    R: Files + Clock + AllocGlobal + Clone + Drop,
     E: Write + Copy + Drop,
     W: Wire + Drop,
     H: BuildHasher + Drop,
@@ -270,11 +297,16 @@ where
     requires { IsValid errand.settings }
     ensures within { result ≤ 1 }
     ensures fetches { (time : Option SystemTime) × (told : Told)
-        × (fetched : FetchesAt W.Wire M.Maildir.MaildirDisk M.File.FlatFile
-        (M.made_store devices.now) (M.made_record devices.now) (M.showed devices.now)
+        × (fetched : FetchesAt W.Wire ⟦<HostMaildir<'a, R> as MaildirDisk>⟧ ⟦<MachineFile<'a, R> as FlatFile>⟧
+        (λ _ path rests store. StoreIs
+        (λ maildir. AreInMaildir maildir.folders.new_folder.host.paths path (codes "new")
+        × AreInMaildir maildir.folders.cur_folder.host.paths path (codes "cur"))
+        (λ mbox. IsFileAt mbox.folder.paths mbox.name.now path
+        × IsSomeAnd mbox.cut_off (λ kept. IsFileAt kept.folder.paths kept.name.now rests)) store)
+        (λ path file. IsFileAt file.folder.paths file.name.now path) (λ _. Unit {0})
         errand.entry.settings errand.entry.paths.now errand.entry.pretends time link.wire told)
         × TellsOf O.contents E.contents errand.entry.settings errand.entry.paths.now
-        (IsPlanOf W.Wire M.Maildir.MaildirDisk M.File.FlatFile (second_of time)
+        (IsPlanOf W.Wire ⟦<HostMaildir<'a, R> as MaildirDisk>⟧ ⟦<MachineFile<'a, R> as FlatFile>⟧ (second_of time)
         (holding_of errand.entry.settings fetched.store fetched.seen_file) link.wire fetched.left fetched.wire')
         told out.old errors.entry result out.new }
 {
@@ -284,7 +316,8 @@ where
         pretends,
     } = errand;
     let Connected { wire, hasher } = link;
-    let alloc = rt.alloc();
+    let system = devices.for_store;
+    let alloc = system.alloc();
     let mut wire = shown(alloc, wire, &settings, &errors);
     let destination = paths.destination.as_str();
     let rests = paths.rests.as_str();
@@ -300,9 +333,7 @@ where
         explains: errors.explains,
         journal: errors.journal,
     };
-    let reasons = errors.reasons;
-    let system = System::new(rt, &reasons.store);
-    let fetched = fetch_into(&system, &mut account, &mut wire, terms, out, &mut errors);
+    let fetched = fetch_mail(system, &mut account, &mut wire, terms, out, &mut errors);
     let (settings, store, seen_file) = account.into_parts();
     let left = RunEnd {
         settings,
@@ -312,33 +343,4 @@ where
     };
     finish(alloc, devices, &left, rests, &mut errors);
     left.into_status()
-}
-
-/// Does what `fetch_at` does, and says less of it: nothing of its devices, and of its words only what the status tells.
-/// At the machine's devices all that `fetch_at` says is too large a term.
-pub fn fetch_setup<'a, R, M, E, W, H, O>(
-    rt: &R,
-    devices: &M,
-    errand: Errand<'a>,
-    link: Connected<W, H>,
-    out: O,
-    errors: Errors<'_, E>,
-) -> u8
-where
-    R: Files + AllocGlobal,
-    M: Devices<'a>,
-    E: Write + Copy + Drop,
-    W: Wire + Drop,
-    H: BuildHasher + Drop,
-    O: Write + Drop,
-    requires { IsValid errand.settings }
-    ensures within { result ≤ 1 }
-    ensures holds { HoldsSetup W.Wire M.Maildir.MaildirDisk M.File.FlatFile (record {
-      settings = errand.entry.settings;
-      paths = errand.entry.paths.now;
-      pretends = errand.entry.pretends;
-    }) result }
-{
-    let mut out = Output::new(out);
-    fetch_at(rt, devices, errand, link, &mut out, errors)
 }

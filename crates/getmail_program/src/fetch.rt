@@ -10,15 +10,15 @@ ghost use Rattle.getmail_program.specs.{
 };
 
 use crate::devices::HostDevices;
-use crate::errand::{Connected, Errand, fetch_setup};
+use crate::errand::{Connected, Errand, fetch_at};
 use crate::news_file::{HostPast, Past, Waiting, patience};
 use fetch_rules::Settings;
 use file_reading::ReadFile;
 use folder_store::{HostFile, HostFolder, HostMaildir, ProcessMark};
 use getmail_setup::{
-    Connection, Errors, Failure, Journal, Link, Lock, LookAt, OnMachine, Peer, Reasons, Setup,
-    SystemLocks, Words, connect, fail, failure_of, home, link_over, other_list, peer_of, set_up,
-    take_lock, warn_of_network,
+    Connection, Errors, Failure, Journal, Link, Lock, LookAt, OnMachine, Output, Peer, Reasons,
+    Setup, SystemLocks, Words, connect, fail, failure_of, home, link_over, other_list, peer_of,
+    set_up, take_lock, warn_of_network,
 };
 use mail_store::{FlatFile, MaildirDisk};
 use pop3_wire::Wire;
@@ -72,8 +72,8 @@ fn prepare<'a, R: RandomSource + AllocGlobal>(
 }
 
 /// Runs one session over the machine's files, or only previews it, with the lock held, and returns the exit status. It
-/// is apart since the requirement of `fetch_setup` is too large a term where the link's type is known too.
-fn fetch_locked<'a, R, E, W, H, O>(
+/// is apart since the requirement of `fetch_at` is too large a term where the link's type is known too.
+fn fetch_setup<'a, R, E, W, H, O>(
     devices: &HostDevices<'a, R>,
     _lock: &Lock,
     errand: Errand<'a>,
@@ -97,7 +97,8 @@ where
           pretends = errand.entry.pretends;
         }) result }
 {
-    fetch_setup(devices.for_store.rt, devices, errand, link, out, errors)
+    let mut out = Output::new(out);
+    fetch_at(devices, errand, link, &mut out, errors)
 }
 
 /// Whether a run leaves the account to another one that has the lock since this second, if that is known, and says
@@ -279,5 +280,5 @@ where
         pretends,
     };
     let link = Connected { wire, hasher };
-    fetch_locked(&devices, &lock, errand, link, out, errors)
+    fetch_setup(&devices, &lock, errand, link, out, errors)
 }

@@ -22,4 +22,4 @@ returns-in-Err-connect-clause-starts g c =
 pub returns-clause-starts : goal.returns-clause-starts
 returns-clause-starts g c =
     let (files, home, is) = c.in-Ok.ensures.ok in
-    (files, (home, inr (c.in-Ok.ready.setup, is, inr c.fetch_locked.ensures.holds)))
+    (files, (home, inr (c.in-Ok.ready.setup, is, inr c.fetch_setup.ensures.holds)))

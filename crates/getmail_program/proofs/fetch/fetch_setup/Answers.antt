@@ -1,5 +1,5 @@
 use Rattle.std.proofs.Common.{◌∙◌}
-use Rattle.getmail_program.proofs.errand.fetch_setup.Goals as goal
+use Rattle.getmail_program.proofs.fetch.fetch_setup.Goals as goal
 
 pub returns-clause-holds : goal.returns-clause-holds
 returns-clause-holds g c =
