@@ -253,8 +253,8 @@ pub fn fetch_into<W: Wire, D: MaildirDisk, F: FlatFile, O: Write, E: Write>(
     fetched
 }
 
-/// Does what `fetch_into` does, into a Maildir in the machine's files. It is apart from `fetch_at` since what both types
-/// together, of the Maildir and of the record's file, are asked for is too large a term.
+/// Does what `fetch_into` does, into a Maildir in the machine's files. It is apart from `fetch_at` since what is asked
+/// of both types together, of the Maildir and of the record's file, is too large a term.
 fn fetch_mail<'a, R, W, F, O, E>(
     system: &System<'a, R>,
     account: &mut Account<HostMaildir<'a, R>, F, impl BuildHasher>,
@@ -273,8 +273,8 @@ where
     ensures same { IsSameAccount account.old account.new }
     ensures fetched { (told : Told) × FetchesInto W.Wire ⟦<HostMaildir<'a, R> as MaildirDisk>⟧ F.FlatFile O.contents
         E.contents terms.entry.pretends terms.entry.explains terms.entry.now terms.entry.destination.now
-        terms.entry.record.now account.old wire.old.wire told account.new wire.new.wire out.old errors.old result out.new
-        errors.new }
+        terms.entry.record.now account.old wire.old.wire told account.new wire.new.wire out.old errors.old
+        result out.new errors.new }
 {
     fetch_into(system, account, wire, terms, out, errors)
 }
