@@ -8,8 +8,8 @@
    first where files have no second name, so that a name is looked up; `told`, a look at a file `told-..`, for want
    of memory; `folder-flush` and `folder-flush-unsupported`, the flush of a folder, with REFUSED_FOLDER only of that
    one, and `sparing-rename`, a rename that spares what is there, as on a file system that has none; `lock-none-left`
-   and `lock-unsupported`, the lock of a file. With REFUSED_WHEN none is refused before the file of that path is
-   there. */
+   and `lock-unsupported`, the lock of a file; `output`, every second write to standard output, as a signal interrupts
+   one. With REFUSED_WHEN none is refused before the file of that path is there. */
 
 #include "preloaded.h"
 #include <sys/file.h>
@@ -37,6 +37,16 @@ int setsockopt(int socket, int level, int name, const void *value, socklen_t siz
                                 || (name == SO_SNDTIMEO && refuses("write-timeout"))))
         return refused(ENOPROTOOPT);
     return next(socket, level, name, value, size);
+}
+
+ssize_t write(int descriptor, const void *bytes, size_t size)
+{
+    NEXT(write);
+    static int asked = 0;
+
+    if (descriptor == STDOUT_FILENO && refuses("output") && asked++ % 2 == 0)
+        return refused(EINTR);
+    return next(descriptor, bytes, size);
 }
 
 int flock(int file, int how)

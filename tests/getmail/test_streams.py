@@ -8,7 +8,8 @@ import threading
 import unittest
 
 from getmail import conversations as known
-from harness import programs
+from getmail.one_account import OneAccount
+from harness import preload, programs
 from harness.dialogue import Dialogue
 
 PIECE = 1 << 20
@@ -129,3 +130,19 @@ class Output(unittest.TestCase):
             program.stop_listening()
             program.give(known.REPLIES[known.USER])
             self.assertEqual(program.process.wait(timeout=programs.SECONDS), 1)
+
+
+class InterruptedOutput(OneAccount):
+    def said(self, **changes):
+        """What a run says of the three messages, each of which is held already."""
+        thread = self.server.begin_session()
+        run = self.account.run("-a", **changes)
+        thread.join(programs.SECONDS)
+        return run
+
+    def test_every_second_write(self):
+        self.session()
+        plain = self.said()
+        with preload.library("refuse_call") as library:
+            self.assertEqual(self.said(LD_PRELOAD=str(library), REFUSED_CALL="output"), plain)
+        self.assertEqual((plain.status, plain.out.count(b"already held")), (0, len(self.server.messages)), plain)
