@@ -33,16 +33,15 @@ use Rattle.getmail_program.specs.{
 }
 
 -- with a store and a file of the record that were made at these paths, a session of the settings was held at the second
--- that the clock showed, or it was only previewed
+-- of this time, or it was only previewed
 pub record FetchesAt {W D F : Type 0} (link : WireGhosts W) (disk : DiskGhosts D) (file : FileGhosts F)
     (made_store : Dest → List ℕ → List ℕ → Store D F → Type 0) (made_record : List ℕ → F → Type 0)
-    (showed : Option SystemTime → Type 0) (settings : Settings) (paths : Paths) (pretends : Bool)
+    (settings : Settings) (paths : Paths) (pretends : Bool)
     (time : Option SystemTime) (wire : W) (told : Told) : Type 0 where
   pub store : Store D F
   pub store_made : made_store settings.dest (string_bytes paths.destination) (string_bytes paths.rests) store
   pub seen_file : F
   pub record_made : made_record (string_bytes paths.record) seen_file
-  pub is_time : showed time
   pub left : Holding D F
   pub wire' : W
   pub holds : HoldsSession link disk file pretends (second_of time) (holding_of settings store seen_file) wire told left
@@ -74,7 +73,7 @@ pub record HoldsSetup {W D F : Type 0} (link : WireGhosts W) (disk : DiskGhosts 
   pub time : Option SystemTime
   pub wire : W
   pub told : Told
-  pub fetches : FetchesAt link disk file (λ _ _ _ _. Unit {0}) (λ _ _. Unit {0}) (λ _. Unit {0}) setup.settings
+  pub fetches : FetchesAt link disk file (λ _ _ _ _. Unit {0}) (λ _ _. Unit {0}) setup.settings
       setup.paths setup.pretends time wire told
   pub refusal : Option OutputRefusal
   pub status_is : status ≡ status_when (told_outcome told) refusal

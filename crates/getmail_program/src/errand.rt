@@ -1,11 +1,10 @@
 //! A run over devices that are made for it.
 ghost use Rattle.std.specs.{
-  Prelude.{◌≡◌, ◌≤◌, ◌==◌, ◌&&◌, ℕ, IsSomeAnd, List, Option, Some, codes, is_some, not, option_map},
+  Prelude.{◌≡◌, ◌≤◌, ◌==◌, ◌&&◌, ℕ, IsSomeAnd, List, Some, codes, is_some, not, option_map},
   String.string_bytes,
-  declared.time.SystemTime.SystemTime,
 };
 ghost use Rattle.rc_file.specs.Settings.{IsValid};
-ghost use Rattle.fetch_session.specs.{Account.IsSameAccount, Hearing.IsPlanOf};
+ghost use Rattle.fetch_session.specs.{Account.IsSameAccount, Hearing.IsPlanOf, Target.kind_of};
 ghost use Rattle.getmail_setup.specs.{
   Clock.second_of,
   Failures.cause_line,
@@ -18,7 +17,7 @@ ghost use Rattle.folder_store.specs.HostPaths.{AreInMaildir, IsFileAt};
 ghost use Rattle.getmail_program.specs.{
   Devices.StoreIs,
   Fetching.{FetchesAt, FetchesInto, TellsOf},
-  Holding.{HoldsSession, holding_of},
+  Holding.{HoldsSession, holding_of, kind_in},
   Noticing.{TakesEach, obstruction_lines, refusal_lines, rests_lines, unflushed_lines},
   Telling.{TellsAll, counts_of},
   declared.told.Told.Told,
@@ -38,6 +37,7 @@ use std::alloc::Global;
 use std::hash::BuildHasher;
 use std::io::Write;
 use std::rt::{Clock, Files};
+use std::time::SystemTime;
 use system_calls::System;
 
 /// What a run is to do: with these settings, at these paths.
@@ -279,12 +279,14 @@ where
     fetch_into(system, account, wire, terms, out, errors)
 }
 
-/// Runs one session over the machine's files, or only previews it, and returns the exit status. What it says goes to
-/// `out`, all else to standard error. The caller has drawn the hasher's keys and the mark of the files.
+/// Runs one session over the machine's files, or only previews it, and returns the exit status. The time is what the
+/// clock showed, if it could be read. What the session says goes to `out`, all else to standard error. The caller has
+/// drawn the keys of the hasher and the mark of the files.
 pub fn fetch_at<'a, R, E, W, H, O>(
     devices: &HostDevices<'a, R>,
     errand: Errand<'a>,
     link: Connected<W, H>,
+    time: Option<SystemTime>,
     out: &mut Output<O>,
     mut errors: Errors<'_, E>,
 ) -> u8
@@ -296,14 +298,14 @@ where
     O: Write,
     requires { IsValid errand.settings }
     ensures within { result ≤ 1 }
-    ensures fetches { (time : Option SystemTime) × (told : Told)
+    ensures fetches { (told : Told)
         × (fetched : FetchesAt W.Wire ⟦<HostMaildir<'a, R> as MaildirDisk>⟧ ⟦<MachineFile<'a, R> as FlatFile>⟧
-        (λ _ path rests store. StoreIs
+        (λ dest path rests store. (kind_of store ≡ kind_in dest) × StoreIs
         (λ maildir. AreInMaildir maildir.folders.new_folder.host.paths path (codes "new")
         × AreInMaildir maildir.folders.cur_folder.host.paths path (codes "cur"))
         (λ mbox. IsFileAt mbox.folder.paths mbox.name.now path
         × IsSomeAnd mbox.cut_off (λ kept. IsFileAt kept.folder.paths kept.name.now rests)) store)
-        (λ path file. IsFileAt file.folder.paths file.name.now path) (λ _. Unit {0})
+        (λ path file. IsFileAt file.folder.paths file.name.now path)
         errand.entry.settings errand.entry.paths.now errand.entry.pretends time link.wire told)
         × TellsOf O.contents E.contents errand.entry.settings errand.entry.paths.now
         (IsPlanOf W.Wire ⟦<HostMaildir<'a, R> as MaildirDisk>⟧ ⟦<MachineFile<'a, R> as FlatFile>⟧ (second_of time)
@@ -326,7 +328,7 @@ where
     let seen_file = devices.record_file(record);
     let mut account = Account::new(alloc, settings, store, seen_file, hasher);
     let terms = RunTerms {
-        now: second_of(devices.time()),
+        now: second_of(time),
         destination,
         record,
         pretends,

@@ -98,7 +98,7 @@ where
         }) result }
 {
     let mut out = Output::new(out);
-    fetch_at(devices, errand, link, &mut out, errors)
+    fetch_at(devices, errand, link, devices.time(), &mut out, errors)
 }
 
 /// Whether a run leaves the account to another one that has the lock since this second, if that is known, and says

@@ -11,14 +11,15 @@ returns-clause-fetches g c =
     let did = c.fetch_mail-fetched.ensures in
     let (told, is) = did.fetched in
     let fetches = fetches_of _ _ _ _ _ _ _ _ _ _ _ _ _ _ _ _ _ _ _ _ _ _ _ _ _ made is_wire is_now is_destination is_record is in (
-      c.time.result,
       told,
       record {
         store = c.store-store.result;
-        store_made = rw (is_destination, c.as_str-rests.ensures.value) at c.store-store.ensures.made;
+        store_made = (
+          c.store-store.ensures.kind,
+          rw (is_destination, c.as_str-rests.ensures.value) at c.store-store.ensures.made,
+        );
         seen_file = c.record_file-seen_file.result;
         record_made = rw is_record at c.record_file-seen_file.ensures;
-        is_time = tt;
         left = c.fetch_mail-fetched.new.account;
         wire' = c.fetch_mail-fetched.new.wire.wire;
         holds = fetches.holds;

@@ -3,9 +3,9 @@ use Rattle.getmail_program.proofs.fetch.fetch_setup.Goals as goal
 
 pub returns-clause-holds : goal.returns-clause-holds
 returns-clause-holds g c =
-    let (time, told, fetches, tells) = c.fetch_at.ensures.fetches in
+    let (told, fetches, tells) = c.fetch_at.ensures.fetches in
     record {
-      time = time;
+      time = c.time.result;
       wire = _;
       told = told;
       fetches = record {
@@ -13,7 +13,6 @@ returns-clause-holds g c =
         store_made = tt;
         seen_file = fetches.seen_file;
         record_made = tt;
-        is_time = tt;
         left = fetches.left;
         wire' = fetches.wire';
         holds = fetches.holds;
