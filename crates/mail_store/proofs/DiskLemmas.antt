@@ -11,12 +11,13 @@ use Rattle.std.{
 use Rattle.mail_terms.specs.FailureCount.{is_refused}
 use Rattle.mail_store.{
   specs.{declared.fault.StoreFault.{StoreFault, TheVariants.{Missing, Refused, NotMbox, NoMemory}}, Settling.{block_size, MayBeLeft}},
-  specs.DiskCalls.{appended, cut, flushed, doubted, MayBeFlushed, all_flushed, MayFlush, FailsDisk, FlushesDisk, Becomes, BecomesInPart},
+  specs.DiskCalls.{appended, cut, flushed, doubted, MayBeFlushed, all_flushed, MayFlush, FailsDisk, FlushesDisk, FlushesTwice, Becomes},
+  specs.DiskCalls.BecomesInPart,
   specs.DiskCalls.{IsSoFar, IsPartAppended, IsFrontAppended, AppendsDisk, CutsDisk, ReplacesDisk, DurableFlush, DurableAppend, DurableCuts},
   specs.DiskCalls.{DurableCutTo, DurableReplace, DurableFlushes, DurableAppends, DurableReplaces},
   specs.Durable.{Blob, Disk, IsByteLeft, IsDurable, IsFlushed, IsLeft, IsLeftOf, IsLeftOfOne, Trusted, IsTorn, MayLeave, all_durable},
   specs.Durable.{content_in, secured, seen_on},
-  specs.{FlatFile.{Stored, Appends, Cuts, Replaces}, Power.{IsLonger, LeavesNoMore, LeavesPart}},
+  specs.{FlatFile.{Stored, holding, file_refused}, Power.{IsLonger, LeavesNoMore, LeavesPart}},
   proofs.{DurableLemmas.{durable_is_left, left_flushed, no_rest, left_of}, SettlingLemmas.part_left},
 }
 
@@ -230,7 +231,7 @@ flushed_now : (o : Option Blob) → Trusted o → IsFlushed (option_map flushed 
 flushed_now None _ = tt
 flushed_now (Some b) trust = flushed_trust b trust
 
-may_no_more : (old new : Disk) → MayFlush old new → LeavesNoMore (MayLeave old) (MayLeave new)
+pub may_no_more : (old new : Disk) → MayFlush old new → LeavesNoMore (MayLeave old) (MayLeave new)
 may_no_more _ _ (inl e) = same_leaves e
 may_no_more _ _ (inr (inl e)) = flush_no_more _ _ _ _ (λ b. inr (inl refl)) (λ _ was. was) e
 may_no_more _ _ (inr (inr (inl e))) = flush_no_more _ _ _ _ (λ b. inr (inr refl)) (λ _ was. was) e
@@ -242,6 +243,32 @@ failed_no_more _ _ NotMbox e = all_no_more _ _ e
 failed_no_more _ _ Refused t = may_no_more _ _ t
 failed_no_more _ _ NoMemory t = may_no_more _ _ t
 
+-- what calls see stays
+now_seen : (o : Option Blob) (f : Blob → Blob) → ((b : Blob) → (f b).content ≡ b.content)
+    → option_map content_in (option_map f o) ≡ option_map content_in o
+now_seen None _ _ = refl
+now_seen (Some b) _ same = ap Some (same b)
+
+pub all_seen : (old new : Disk) → new ≡ all_flushed old → seen_on new ≡ seen_on old
+all_seen old _ e = ap seen_on e ∙ now_seen old.now flushed (λ b. refl)
+
+pub may_seen : (old new : Disk) → MayFlush old new → seen_on new ≡ seen_on old
+may_seen _ _ (inl e) = ap seen_on e
+may_seen old _ (inr (inl e)) = ap seen_on e ∙ now_seen old.now flushed (λ b. refl)
+may_seen old _ (inr (inr (inl e))) = ap seen_on e ∙ now_seen old.now doubted (λ b. refl)
+may_seen old new (inr (inr (inr e))) = all_seen old new e
+
+pub flush_seen : {T : Type 0} (old new : Disk) (result : Result T StoreFault) → FlushesDisk old result new → seen_on new ≡ seen_on old
+flush_seen old new (Ok _) e = all_seen old new e
+flush_seen _ _ (Err Missing) e = ap seen_on e
+flush_seen old new (Err NotMbox) e = all_seen old new e
+flush_seen old new (Err Refused) t = may_seen old new t
+flush_seen old new (Err NoMemory) t = may_seen old new t
+
+pub twice_seen : {T : Type 0} (old new : Disk) (result : Result T StoreFault) → FlushesTwice old result new → seen_on new ≡ seen_on old
+twice_seen old new result (inl t) = flush_seen old new result t
+twice_seen old new result (inr t) = flush_seen _ new result t ∙ all_seen old _ refl
+
 -- what calls see is durable then, if no flush was refused before
 pub all_trust : (old new : Disk) → new ≡ all_flushed old → Trusted old.now → IsDurable new
 all_trust old _ e trust = rw e (record { named = refl; flushed = flushed_now old.now trust })
@@ -250,7 +277,7 @@ pub durable_flush : {T : Type 0} (old new : Disk) (result : Result T StoreFault)
 durable_flush old _ (Ok _) e = record { no_more = all_no_more _ _ e; durable = all_trust old _ e }
 durable_flush _ _ (Err _) t = record { no_more = failed_no_more _ _ _ t; durable = λ _. tt }
 
-may_durable : (old new : Disk) → MayFlush old new → IsDurable old → Trusted new.now → IsDurable new
+pub may_durable : (old new : Disk) → MayFlush old new → IsDurable old → Trusted new.now → IsDurable new
 may_durable _ _ (inl e) is _ = rw e is
 may_durable old _ (inr (inl e)) is _ = rw e (record { named = is.named; flushed = flushed_now old.now (durable_trust old is) })
 may_durable old _ (inr (inr (inl e))) is trust =
@@ -583,6 +610,25 @@ durable_replace _ _ _ (Err _) (inr (inr e)) = record { leaves = λ left. of_new 
 
 -- ---- what calls see
 
+-- the bytes follow the old ones; after a refused call a front of them does
+abbrev pub Appends : {T : Type 0} → Stored → List ℕ → Result T StoreFault → Stored → Type 0
+Appends old bytes (Ok done) new = (was : List ℕ) → old.content ≡ Some was → new ≡ holding old (was ++ bytes)
+Appends old bytes (Err fault) new =
+    (was : List ℕ) → old.content ≡ Some was
+    → (front rest : List ℕ) × (bytes ≡ front ++ rest) × (new ≡ file_refused (holding old (was ++ front)))
+
+-- the first bytes are kept; a refused call leaves the old ones or these
+abbrev pub Cuts : {T : Type 0} → Stored → ℕ → Result T StoreFault → Stored → Type 0
+Cuts old len (Ok done) new = (was : List ℕ) → old.content ≡ Some was → new ≡ holding old (take len was)
+Cuts old len (Err fault) new =
+    (was : List ℕ) → old.content ≡ Some was
+    → (new ≡ file_refused old) ⊎ (new ≡ file_refused (holding old (take len was)))
+
+-- the bytes are the file's; a refused call leaves the file as it was, or with these bytes
+abbrev pub Replaces : {T : Type 0} → Stored → List ℕ → Result T StoreFault → Stored → Type 0
+Replaces old bytes (Ok done) new = new ≡ holding old bytes
+Replaces old bytes (Err fault) new = (new ≡ file_refused old) ⊎ (new ≡ file_refused (holding old bytes))
+
 -- the file that calls see
 abbrev pub stored_on : Disk → ℕ → Stored
 stored_on disk failures = record { content = seen_on disk; failures = failures }
@@ -647,5 +693,3 @@ pub durable_replaces : DurableReplaces
 durable_replaces _ _ _ _ t = durable_replace _ _ _ _ t
 
 pub ruleset call_laws = (durable_flushes, durable_appends, durable_cuts, durable_replaces)
-
-pub ruleset look_laws = (all_no_more, all_trust, failed_no_more, durable_trust)

@@ -4,3 +4,6 @@ pub mod SettlingLemmas
 pub mod LossLemmas
 pub mod DurableLemmas
 pub mod DiskLemmas
+pub mod EntryLemmas
+mod PeekLemmas
+pub mod SettledLemmas

@@ -1,5 +1,6 @@
 -- What each call of a file device does to what of the file is durable, for either outcome, and what a crash leaves.
-use Rattle.std.specs.Prelude.{◌≡◌, ◌⊎◌, ℕ, min, List, [], ◌∷◌, ◌++◌, length, take, true, Some, option_map, Result, Ok}
+use Rattle.std.specs.Prelude.{◌≡◌, ◌⊎◌, ℕ, min, List, [], ◌∷◌, ◌++◌, length, take, true, Option, Some, option_map}
+use Rattle.std.specs.Prelude.{Result, Ok}
 use Rattle.std.specs.Prelude.{Err, OnOk, if◌then◌else◌}
 use Rattle.mail_store.specs.{
   declared.fault.StoreFault.{StoreFault, TheVariants.{Missing, NotMbox}},
@@ -57,10 +58,29 @@ FailsDisk old Missing new = new ≡ old
 FailsDisk old NotMbox new = new ≡ all_flushed old
 FailsDisk old fault new = MayFlush old new
 
--- `load`, `edges` and `read_at`: the file and its name were flushed
+-- the file and its name were flushed
 abbrev pub FlushesDisk : {T : Type 0} → Disk → Result T StoreFault → Disk → Type 0
 FlushesDisk old (Ok done) new = new ≡ all_flushed old
 FlushesDisk old (Err fault) new = FailsDisk old fault new
+
+-- they were once, or twice
+abbrev pub FlushesTwice : {T : Type 0} → Disk → Result T StoreFault → Disk → Type 0
+FlushesTwice old result new = FlushesDisk old result new ⊎ FlushesDisk (all_flushed old) result new
+
+-- `load`, `edges` and `read_at`: a call told this of what calls see, and flushed it
+abbrev pub ReadsDisk : {T : Type 0} → (Option (List ℕ) → Result T StoreFault → Type 0) → Disk → Result T StoreFault
+    → Disk → Type 0
+ReadsDisk Tells old result new = Tells (seen_on old) result × FlushesDisk old result new
+
+-- `peek` and `peek_edges`: a call told this of what calls see
+abbrev pub PeeksDisk : {T : Type 0} → (Option (List ℕ) → Result T StoreFault → Type 0) → Disk → Result T StoreFault
+    → Disk → Type 0
+PeeksDisk Tells old result new = Tells (seen_on old) result × (new ≡ old)
+
+-- a call told this of what calls see, and changed nothing of that
+abbrev pub LooksOn : {T : Type 0} → (Option (List ℕ) → Result T StoreFault → Type 0) → Disk → Result T StoreFault → Disk
+    → Type 0
+LooksOn Tells old result new = Tells (seen_on old) result × (seen_on new ≡ seen_on old)
 
 -- ---- a call that writes
 

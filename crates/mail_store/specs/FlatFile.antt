@@ -1,7 +1,6 @@
--- What each call of a file device does, for either outcome, as a relation between what is known of
--- the file before and after the call.
-use Rattle.std.specs.Prelude.{◌≡◌, ℕ, ◌+◌, ◌≤◌, List, [], ◌∷◌, ◌++◌, length, take, drop, slice_index, Option, Some}
-use Rattle.std.specs.Prelude.{None, Result, Ok, Err, ◌⊎◌, Vec}
+-- What calls see of a file, and what those that read tell of it.
+use Rattle.std.specs.Prelude.{◌≡◌, ℕ, ◌+◌, ◌≤◌, List, [], ◌∷◌, length, take, drop, slice_index, Option, Some}
+use Rattle.std.specs.Prelude.{None, Result, Ok, Err, Vec}
 use Rattle.mail_store.specs.declared.{
   fault.StoreFault.{StoreFault, TheVariants.{Missing, Refused}},
   file.flat_file.Edges.Edges,
@@ -30,53 +29,34 @@ edges_of bytes = record {
   tail = slice_index (0 ∷ 0 ∷ bytes) (length bytes) ∷ slice_index (0 ∷ 0 ∷ bytes) (length bytes + 1) ∷ [];
 }
 
--- a call that only reads failed: there is no file, or the call was refused
-abbrev pub FailsAs : Stored → StoreFault → Stored → Type 0
-FailsAs old Missing new = (old.content ≡ None) × (new ≡ old)
-FailsAs old Refused new = new ≡ file_refused old
-FailsAs old fault new = ⊥
+-- ---- what a call that reads tells of the bytes of a file, None for no file
 
--- `load` and `peek`: the file's bytes
-abbrev pub Loads : {B : Type 0} → Stored → Result (Vec ℕ B) StoreFault → Stored → Type 0
-Loads old (Ok bytes) new = (old.content ≡ Some bytes.items) × (new ≡ old)
-Loads old (Err fault) new = FailsAs old fault new
+-- it failed: there is no file, or the call was refused
+abbrev pub Fails : Option (List ℕ) → StoreFault → Type 0
+Fails content Missing = content ≡ None
+Fails content Refused = Unit {0}
+Fails content fault = ⊥
 
--- `edges` and `peek_edges`: the size and the ends of the file's bytes
-abbrev pub Measures : Stored → Result Edges StoreFault → Stored → Type 0
-Measures old (Ok edges) new = ((was : List ℕ) × (old.content ≡ Some was) × (edges ≡ edges_of was)) × (new ≡ old)
-Measures old (Err fault) new = FailsAs old fault new
+-- `load` and `peek`: the bytes
+abbrev pub TellsBytes : {B : Type 0} → Option (List ℕ) → Result (Vec ℕ B) StoreFault → Type 0
+TellsBytes content (Ok bytes) = content ≡ Some bytes.items
+TellsBytes content (Err fault) = Fails content fault
+
+-- `edges` and `peek_edges`: their size and their ends
+abbrev pub TellsEdges : Option (List ℕ) → Result Edges StoreFault → Type 0
+TellsEdges content (Ok edges) = (was : List ℕ) × (content ≡ Some was) × (edges ≡ edges_of was)
+TellsEdges content (Err fault) = Fails content fault
 
 -- the bytes from a place on, at most `len`: none if the place is at or past the end
 abbrev pub piece_at : ℕ → ℕ → List ℕ → List ℕ
 piece_at start len bytes = take len (drop start bytes)
 
--- `read_at`: the front of the buffer has the file's bytes from a place on, as many as fit, and the answer is how many
-abbrev pub ReadsAt : Stored → ℕ → Result ℕ StoreFault → List ℕ → Stored → Type 0
-ReadsAt old start (Ok count) buf new =
-    ((was : List ℕ) × (old.content ≡ Some was) × (count ≡ length (piece_at start (length buf) was))
-    × (take count buf ≡ piece_at start (length buf) was))
-    × (new ≡ old)
-ReadsAt old start (Err fault) buf new = FailsAs old fault new
-
--- `append`: the bytes follow the old ones; after a refused call a front of them does
-abbrev pub Appends : {T : Type 0} → Stored → List ℕ → Result T StoreFault → Stored → Type 0
-Appends old bytes (Ok done) new = (was : List ℕ) → old.content ≡ Some was → new ≡ holding old (was ++ bytes)
-Appends old bytes (Err fault) new =
-    (was : List ℕ) → old.content ≡ Some was
-    → (front rest : List ℕ) × (bytes ≡ front ++ rest) × (new ≡ file_refused (holding old (was ++ front)))
-
--- `cut_to`: the first bytes are kept; a refused call leaves the old ones or these
-abbrev pub Cuts : {T : Type 0} → Stored → ℕ → Result T StoreFault → Stored → Type 0
-Cuts old len (Ok done) new = (was : List ℕ) → old.content ≡ Some was → new ≡ holding old (take len was)
-Cuts old len (Err fault) new =
-    (was : List ℕ) → old.content ≡ Some was
-    → (new ≡ file_refused old) ⊎ (new ≡ file_refused (holding old (take len was)))
-
--- `replace`: the bytes are the file's; a refused call leaves the file as it was, or with these bytes
-abbrev pub Replaces : {T : Type 0} → Stored → List ℕ → Result T StoreFault → Stored → Type 0
-Replaces old bytes (Ok done) new = new ≡ holding old bytes
-Replaces old bytes (Err fault) new = (new ≡ file_refused old) ⊎ (new ≡ file_refused (holding old bytes))
+-- `read_at`: the front of the buffer has the bytes from a place on, as many as fit, and the answer is how many
+abbrev pub TellsPiece : ℕ → List ℕ → Option (List ℕ) → Result ℕ StoreFault → Type 0
+TellsPiece start buf content (Ok count) = (was : List ℕ) × (content ≡ Some was)
+    × (count ≡ length (piece_at start (length buf) was)) × (take count buf ≡ piece_at start (length buf) was)
+TellsPiece start buf content (Err fault) = Fails content fault
 
 -- the file is there, and has at least this many bytes
-abbrev pub HasBytes : Stored → ℕ → Type 0
-HasBytes stored len = (was : List ℕ) × (stored.content ≡ Some was) × (len ≤ length was)
+abbrev pub HasBytes : Option (List ℕ) → ℕ → Type 0
+HasBytes content len = (was : List ℕ) × (content ≡ Some was) × (len ≤ length was)

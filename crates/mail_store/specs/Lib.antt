@@ -12,3 +12,4 @@ pub mod MboxCalls
 pub mod MemoryMaildir
 pub mod Power
 pub mod Settling
+pub mod SettlingCalls

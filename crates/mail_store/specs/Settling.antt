@@ -7,9 +7,9 @@ use Rattle.std.specs.{
 }
 use Rattle.mail_terms.specs.{Listing.Item, Text.IsWhole}
 use Rattle.mail_store.specs.{
-  declared.fault.StoreFault.{StoreFault, TheVariants.{Missing, Refused, NotMbox, NoMemory}},
+  declared.fault.StoreFault.{StoreFault, TheVariants.{NotMbox, NoMemory}},
   declared.mboxrd.settling.Behind.{Behind, TheVariants.{Others, Whole, Torn}},
-  FlatFile.{Stored, FailsAs, holding, file_refused},
+  FlatFile.Fails,
   Mboxrd.{MayGoOn, lines_of, begins_entry, separator, entry_of, text_in, wire_size},
 }
 
@@ -131,32 +131,18 @@ IsBehind Torn start len listed was = (stands_whole start len listed was ≡ fals
     × (start ≤ length was)
 
 -- what stands there was told; memory ran out; or the call failed
-abbrev pub LooksBehind : Stored → ℕ → ℕ → Option ℕ → Result Behind StoreFault → Stored → Type 0
-LooksBehind old start len listed (Ok behind) new =
-    ((was : List ℕ) × (old.content ≡ Some was) × IsBehind behind start len listed was) × (new ≡ old)
-LooksBehind old start len listed (Err NoMemory) new = new ≡ old
-LooksBehind old start len listed (Err fault) new = FailsAs old fault new
-
--- `settle_file`: the file is settled, and the answer is whether the entry is there whole; there is no file; a call was
--- refused, and the file is as it was, or settled; or memory ran out, and the file is as it was
-abbrev pub SettlesFile : Stored → ℕ → ℕ → Option ℕ → Result Bool StoreFault → Stored → Type 0
-SettlesFile old start len listed (Ok whole) new =
-    (was : List ℕ) × (old.content ≡ Some was) × (whole ≡ stands_whole start len listed was)
-    × (new ≡ holding old (settled_file start len listed was))
-SettlesFile old start len listed (Err Missing) new = (old.content ≡ None) × (new ≡ old)
-SettlesFile old start len listed (Err Refused) new = (new ≡ file_refused old)
-    ⊎ ((was : List ℕ) × (old.content ≡ Some was)
-    × (new ≡ file_refused (holding old (settled_file start len listed was))))
-SettlesFile old start len listed (Err NotMbox) new = ⊥
-SettlesFile old start len listed (Err NoMemory) new = new ≡ old
+abbrev pub TellsBehind : ℕ → ℕ → Option ℕ → Option (List ℕ) → Result Behind StoreFault → Type 0
+TellsBehind start len listed content (Ok behind) = (was : List ℕ) × (content ≡ Some was)
+    × IsBehind behind start len listed was
+TellsBehind start len listed content (Err NoMemory) = Unit {0}
+TellsBehind start len listed content (Err fault) = Fails content fault
 
 -- `peek_settled`: whether the entry is there whole, and an entry may follow the file once it is settled; there is no
--- file; a call was refused; none may follow; or memory ran out. The file is as it was
-abbrev pub PeeksSettled : Stored → ℕ → ℕ → Option ℕ → Result Bool StoreFault → Stored → Type 0
-PeeksSettled old start len listed (Ok whole) new =
-    ((was : List ℕ) × (old.content ≡ Some was) × (whole ≡ stands_whole start len listed was)
-    × MayGoOn (settled_file start len listed was)) × (new ≡ old)
-PeeksSettled old start len listed (Err NotMbox) new =
-    ((was : List ℕ) × (old.content ≡ Some was) × (MayGoOn (settled_file start len listed was) → ⊥)) × (new ≡ old)
-PeeksSettled old start len listed (Err NoMemory) new = new ≡ old
-PeeksSettled old start len listed (Err fault) new = FailsAs old fault new
+-- file; a call was refused; none may follow; or memory ran out
+abbrev pub TellsSettled : ℕ → ℕ → Option ℕ → Option (List ℕ) → Result Bool StoreFault → Type 0
+TellsSettled start len listed content (Ok whole) = (was : List ℕ) × (content ≡ Some was)
+    × (whole ≡ stands_whole start len listed was) × MayGoOn (settled_file start len listed was)
+TellsSettled start len listed content (Err NotMbox) = (was : List ℕ) × (content ≡ Some was)
+    × (MayGoOn (settled_file start len listed was) → ⊥)
+TellsSettled start len listed content (Err NoMemory) = Unit {0}
+TellsSettled start len listed content (Err fault) = Fails content fault

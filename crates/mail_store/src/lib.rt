@@ -26,13 +26,13 @@ pub use maildir::names::{
     unheld_ids_are_not_there,
 };
 pub use mboxrd::entry::{
-    append_entry, check_mbox, entries_add_texts, entries_may_follow_texts, entry_len,
-    files_have_one_reading, peek_ends, peek_mbox,
+    append_entry, appended_entries_are_durable, check_mbox, entries_add_texts,
+    entries_may_follow_texts, entry_len, files_have_one_reading, peek_ends, peek_mbox,
 };
 pub use mboxrd::quoting::{is_whole, quote, unquote, unquoting_undoes_quoting};
 pub use mboxrd::reading::read_mbox;
 pub use mboxrd::settling::{
-    leftovers_of_entries_are_settled, listed_size, peek_settled, settle_file, what_is_lost_is_zero,
-    whole_entries_count,
+    leftovers_of_entries_are_settled, listed_size, peek_settled, settle_file,
+    settled_files_are_durable, what_is_lost_is_zero, whole_entries_count,
 };
 pub use refusal::{admit, refuse};

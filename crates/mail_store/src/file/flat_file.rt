@@ -20,17 +20,17 @@ pub struct Edges {
 
 /// A device that keeps one file, and that can refuse any call.
 pub trait FlatFile {
-    ghost use Rattle.std.specs.Prelude.{◌≡◌, ◌≤◌, length, IfErr, IfOk, IsSome};
-    ghost use Rattle.mail_terms.specs.FailureCount.{Tallies, refuses};
+    ghost use Rattle.std.specs.Prelude.{◌≡◌, ◌≤◌, ◌<◌, ℕ, length, IfErr, IfOk, IsSome};
+    ghost use Rattle.mail_terms.specs.FailureCount.{Tallies, refuses, greatest_count};
     ghost use Rattle.mail_store.specs.{Fault.{is_refusal, IsDeviceFault}, Durable.{Disk, seen_on}};
-    ghost use Rattle.mail_store.specs.DiskCalls.{AppendsDisk, CutsDisk, FlushesDisk, ReplacesDisk};
-    ghost use Rattle.mail_store.specs.FlatFile.{Stored, Loads, Measures, ReadsAt, Appends, Cuts, Replaces, HasBytes};
+    ghost use Rattle.mail_store.specs.DiskCalls.{AppendsDisk, CutsDisk, PeeksDisk, ReadsDisk, ReplacesDisk};
+    ghost use Rattle.mail_store.specs.FlatFile.{HasBytes, TellsBytes, TellsEdges, TellsPiece};
 
-    // What calls see of the file.
-    ghost stored: { Self → Stored };
-
-    // What of it is durable, and what its name led to before.
+    // The file as calls see it, what of it is durable, and what its name led to before.
     ghost disk: { Self → Disk };
+
+    // How many calls were refused.
+    ghost refusals: { Self → ℕ };
 
     // The premise: so far the device did what this trait says, and its count is below its greatest
     // value. If it holds after a call, it held before it.
@@ -39,37 +39,33 @@ pub trait FlatFile {
     /// The bytes of the file. Missing if there is none, else Refused.
     fn load(&mut self) -> Result<Vec<u8>, StoreFault>
         ensures loads { sound self.new → sound self.old
-            × Loads (stored self.old) result (stored self.new) }
+            × ReadsDisk TellsBytes (disk self.old) result (disk self.new) }
         ensures fault { IfErr result IsDeviceFault }
-        ensures durable { sound self.new → FlushesDisk (disk self.old) result (disk self.new) }
-        ensures count { Tallies (refuses is_refusal result) (stored self.old).failures (stored self.new).failures };
+        ensures count { Tallies (refuses is_refusal result) (refusals self.old) (refusals self.new) };
 
     /// The bytes of the file, as `load` gives them, but nothing is flushed: a loss of power may take
     /// back what was read. Missing if there is none, else Refused.
     fn peek(&mut self) -> Result<Vec<u8>, StoreFault>
-        ensures loads { sound self.new → sound self.old
-            × Loads (stored self.old) result (stored self.new) }
+        ensures peeks { sound self.new → sound self.old
+            × PeeksDisk TellsBytes (disk self.old) result (disk self.new) }
         ensures fault { IfErr result IsDeviceFault }
-        ensures durable { sound self.new → disk self.new ≡ disk self.old }
-        ensures count { Tallies (refuses is_refusal result) (stored self.old).failures (stored self.new).failures };
+        ensures count { Tallies (refuses is_refusal result) (refusals self.old) (refusals self.new) };
 
     /// The size of the file, its first five bytes and its last two. Missing if there is none, else
     /// Refused.
     fn edges(&mut self) -> Result<Edges, StoreFault>
         ensures measures { sound self.new → sound self.old
-            × Measures (stored self.old) result (stored self.new) }
+            × ReadsDisk TellsEdges (disk self.old) result (disk self.new) }
         ensures fault { IfErr result IsDeviceFault }
-        ensures durable { sound self.new → FlushesDisk (disk self.old) result (disk self.new) }
-        ensures count { Tallies (refuses is_refusal result) (stored self.old).failures (stored self.new).failures };
+        ensures count { Tallies (refuses is_refusal result) (refusals self.old) (refusals self.new) };
 
     /// The size and the ends of the file, as `edges` gives them, but nothing is flushed. Missing if
     /// there is none, else Refused.
     fn peek_edges(&mut self) -> Result<Edges, StoreFault>
-        ensures measures { sound self.new → sound self.old
-            × Measures (stored self.old) result (stored self.new) }
+        ensures peeks { sound self.new → sound self.old
+            × PeeksDisk TellsEdges (disk self.old) result (disk self.new) }
         ensures fault { IfErr result IsDeviceFault }
-        ensures durable { sound self.new → disk self.new ≡ disk self.old }
-        ensures count { Tallies (refuses is_refusal result) (stored self.old).failures (stored self.new).failures };
+        ensures count { Tallies (refuses is_refusal result) (refusals self.old) (refusals self.new) };
 
     /// Reads the bytes of the file from `start` on into the front of a buffer, and returns how
     /// many: as many as there are and fit, so none if `start` is at or past the end. Missing if
@@ -77,45 +73,41 @@ pub trait FlatFile {
     fn read_at(&mut self, start: u64, buf: &mut [u8]) -> Result<usize, StoreFault>
         ensures within { IfOk result (λ count. count ≤ length buf.new) }
         ensures reads { sound self.new → sound self.old
-            × ReadsAt (stored self.old) start result buf.new (stored self.new) }
+            × ReadsDisk (TellsPiece start buf.new) (disk self.old) result (disk self.new) }
         ensures fault { IfErr result IsDeviceFault }
-        ensures durable { sound self.new → FlushesDisk (disk self.old) result (disk self.new) }
-        ensures count { Tallies (refuses is_refusal result) (stored self.old).failures (stored self.new).failures };
+        ensures count { Tallies (refuses is_refusal result) (refusals self.old) (refusals self.new) };
 
     /// Appends bytes to the file, which must be there, as after a good `load`, `edges` or
     /// `replace`. The only fault is Refused: a front of the bytes may then have been appended.
     fn append(&mut self, bytes: &[u8]) -> Result<(), StoreFault>
-        requires { sound self.old → IsSome (stored self.old).content }
+        requires { sound self.old → IsSome (seen_on (disk self.old)) }
         ensures appends { sound self.new → sound self.old
-            × Appends (stored self.old) bytes.now result (stored self.new) }
+            × AppendsDisk (disk self.old) bytes.now result (disk self.new) }
         ensures fault { IfErr result (λ e. e ≡ StoreFault.Refused) }
-        ensures durable { sound self.new → AppendsDisk (disk self.old) bytes.now result (disk self.new) }
-        ensures count { Tallies (refuses is_refusal result) (stored self.old).failures (stored self.new).failures };
+        ensures count { Tallies (refuses is_refusal result) (refusals self.old) (refusals self.new) };
 
     /// Cuts the file to its first `len` bytes; it must have that many (see `edges`). The only fault
     /// is Refused: the file is then as it was, or cut.
     fn cut_to(&mut self, len: u64) -> Result<(), StoreFault>
-        requires { sound self.old → HasBytes (stored self.old) len }
+        requires { sound self.old → HasBytes (seen_on (disk self.old)) len }
         ensures cuts { sound self.new → sound self.old
-            × Cuts (stored self.old) len result (stored self.new) }
+            × CutsDisk (disk self.old) len result (disk self.new) }
         ensures fault { IfErr result (λ e. e ≡ StoreFault.Refused) }
-        ensures durable { sound self.new → CutsDisk (disk self.old) len result (disk self.new) }
-        ensures count { Tallies (refuses is_refusal result) (stored self.old).failures (stored self.new).failures };
+        ensures count { Tallies (refuses is_refusal result) (refusals self.old) (refusals self.new) };
 
     /// Replaces the file's content by these bytes, whether or not there is a file. The only fault
     /// is Refused: the file is then as it was, or has these bytes.
     fn replace(&mut self, bytes: &[u8]) -> Result<(), StoreFault>
         ensures replaces { sound self.new → sound self.old
-            × Replaces (stored self.old) bytes.now result (stored self.new) }
+            × ReplacesDisk (disk self.old) bytes.now result (disk self.new) }
         ensures fault { IfErr result (λ e. e ≡ StoreFault.Refused) }
-        ensures durable { sound self.new → ReplacesDisk (disk self.old) bytes.now result (disk self.new) }
-        ensures count { Tallies (refuses is_refusal result) (stored self.old).failures (stored self.new).failures };
+        ensures count { Tallies (refuses is_refusal result) (refusals self.old) (refusals self.new) };
 
     /// How many calls were refused.
     fn failures(&self) -> u64
-        ensures { result ≡ (stored self.now).failures };
+        ensures { result ≡ refusals self.now };
 
-    ghost shown: { (file : Self) → seen_on (disk file) ≡ (stored file).content };
+    ghost below: { (file : Self) → sound file → refusals file < greatest_count };
 }
 
 /// A crash leaves what calls see of a file that is durable, and can leave whatever it may.

@@ -64,14 +64,14 @@ impl MemoryFile {
 impl FlatFile for MemoryFile {
     ghost use Rattle.std.{specs.Prelude.{◌≡◌, ◌≢◌, ◌≤◌, ◌<◌, length, IfOk, IsOk, None, Some}, proofs.Common.refl};
     ghost use Rattle.mail_terms.specs.FailureCount.{greatest_count};
-    ghost use Rattle.mail_store.specs.Devices.{FileDoes, DurableDoes, FilePeeks, FileReads, FileRefuses};
-    ghost use Rattle.mail_store.specs.{DiskCalls.CutsDisk, Durable.{all_durable, seen_on}};
-    ghost use Rattle.mail_store.specs.FlatFile.{Measures, ReadsAt, Cuts, HasBytes};
-
-    ghost stored = { λ f. f };
+    ghost use Rattle.mail_store.specs.Devices.{FileAnswers, FileDoes, FileRefuses};
+    ghost use Rattle.mail_store.specs.{DiskCalls.{CutsDisk, PeeksDisk, ReadsDisk}, Durable.all_durable};
+    ghost use Rattle.mail_store.specs.FlatFile.{HasBytes, TellsEdges, TellsPiece};
 
     // As long as the program runs, no crash reaches what is in memory.
     ghost disk = { λ f. all_durable f.content };
+
+    ghost refusals = { λ f. f.failures };
 
     ghost sound = { λ f. f.failures < greatest_count };
 
@@ -91,8 +91,9 @@ impl FlatFile for MemoryFile {
     }
 
     fn edges(&mut self) -> Result<Edges, StoreFault>
-        ensures measures { FileDoes ⟦<MemoryFile as FlatFile>⟧ (λ old new. Measures old result new) self.old self.new }
-        ensures flushes { FileReads ⟦<MemoryFile as FlatFile>⟧ self.old result self.new }
+        ensures measures { FileDoes ⟦<MemoryFile as FlatFile>⟧
+            (λ old new. ReadsDisk TellsEdges old result new) self.old self.new }
+        ensures tells { FileAnswers ⟦<MemoryFile as FlatFile>⟧ self.old result self.new }
         ensures answers { self.old.failures < greatest_count → result ≢ Err StoreFault.Refused }
     {
         self.peek_edges()
@@ -100,8 +101,9 @@ impl FlatFile for MemoryFile {
 
     // It takes no memory, so below the greatest count it isn't refused.
     fn peek_edges(&mut self) -> Result<Edges, StoreFault>
-        ensures measures { FileDoes ⟦<MemoryFile as FlatFile>⟧ (λ old new. Measures old result new) self.old self.new }
-        ensures peeks { FilePeeks ⟦<MemoryFile as FlatFile>⟧ self.old result self.new }
+        ensures peeks { FileDoes ⟦<MemoryFile as FlatFile>⟧
+            (λ old new. PeeksDisk TellsEdges old result new) self.old self.new }
+        ensures tells { FileAnswers ⟦<MemoryFile as FlatFile>⟧ self.old result self.new }
         ensures answers { self.old.failures < greatest_count → result ≢ Err StoreFault.Refused }
     {
         admit(&self.failures)?;
@@ -116,8 +118,8 @@ impl FlatFile for MemoryFile {
     fn read_at(&mut self, start: u64, buf: &mut [u8]) -> Result<usize, StoreFault>
         ensures within { IfOk result (λ count. count ≤ length buf.new) }
         ensures reads { FileDoes ⟦<MemoryFile as FlatFile>⟧
-            (λ old new. ReadsAt old start result buf.new new) self.old self.new }
-        ensures flushes { FileReads ⟦<MemoryFile as FlatFile>⟧ self.old result self.new }
+            (λ old new. ReadsDisk (TellsPiece start buf.new) old result new) self.old self.new }
+        ensures tells { FileAnswers ⟦<MemoryFile as FlatFile>⟧ self.old result self.new }
         ensures answers { self.old.failures < greatest_count → result ≢ Err StoreFault.Refused }
     {
         admit(&self.failures)?;
@@ -140,10 +142,8 @@ impl FlatFile for MemoryFile {
 
     // It takes no memory, so below the greatest count it isn't refused.
     fn cut_to(&mut self, len: u64) -> Result<(), StoreFault>
-        requires { self.old.failures < greatest_count → HasBytes self.old len }
-        ensures cuts { FileDoes ⟦<MemoryFile as FlatFile>⟧ (λ old new. Cuts old len result new) self.old self.new }
-        ensures durable { DurableDoes ⟦<MemoryFile as FlatFile>⟧
-            (λ old new. CutsDisk old len result new) self.old self.new }
+        requires { self.old.failures < greatest_count → HasBytes self.old.content len }
+        ensures cuts { FileDoes ⟦<MemoryFile as FlatFile>⟧ (λ old new. CutsDisk old len result new) self.old self.new }
         ensures refuses { FileRefuses ⟦<MemoryFile as FlatFile>⟧ self.old result self.new }
         ensures answers { self.old.failures < greatest_count → IsOk result }
     {
@@ -170,5 +170,5 @@ impl FlatFile for MemoryFile {
         self.failures.count()
     }
 
-    ghost shown = { λ f. elim f.content as (λ c. seen_on (all_durable c) ≡ c) [ None ↦ refl | Some bytes ↦ refl ] };
+    ghost below = { λ f sound. sound };
 }

@@ -4,13 +4,12 @@ ghost use Rattle.std.specs.Prelude.{◌≡◌, ◌≢◌, ◌↔◌, ◌≤◌, 
 ghost use Rattle.std.specs.Prelude.{IsTrue, OnOk};
 ghost use Rattle.mail_terms.specs.{FailureCount.{Tallies, refuses}, Text.IsWhole};
 ghost use Rattle.mail_store.specs.{
-  DiskCalls.FlushesDisk,
-  Durable.{IsDurable, Trusted, MayLeave},
+  DiskCalls.{LooksOn, PeeksDisk, ReadsDisk},
+  Durable.seen_on,
   Fault.is_refusal,
   FlatFile.{HasBytes, edges_of},
   Mboxrd.{MayGoOn, entry_of, separator, EntryAddsText, OneListOfTexts, TextsMayGoOn},
-  Power.{KeepsWhole, LeavesPart},
-  MboxCalls.{Looks, ChecksMbox, ChecksFront, AppendsEntry, IsStillDurable, TalliesEntry},
+  MboxCalls.{AppendsEntry, EntriesAreDurable, TalliesEntry, TellsEnds, TellsFront, TellsMbox},
 };
 
 use crate::fault::{EntryFault, StoreFault};
@@ -30,10 +29,9 @@ fn may_go_on(edges: &Edges) -> bool
 /// The size and the ends of a file that an entry may follow.
 fn look_at<F: FlatFile>(file: &mut F) -> Result<Edges, StoreFault>
     ensures looks { F.sound file.new → F.sound file.old
-        × Looks (F.stored file.old) result (F.stored file.new) }
+        × ReadsDisk TellsEnds (F.disk file.old) result (F.disk file.new) }
     ensures fault { IfErr result (λ e. e ≢ StoreFault.NoMemory) }
-    ensures durable { F.sound file.new → FlushesDisk (F.disk file.old) result (F.disk file.new) }
-    ensures count { Tallies (refuses is_refusal result) (F.stored file.old).failures (F.stored file.new).failures }
+    ensures count { Tallies (refuses is_refusal result) (F.refusals file.old) (F.refusals file.new) }
 {
     let edges = file.edges()?;
     if !may_go_on(&edges) {
@@ -47,10 +45,9 @@ fn look_at<F: FlatFile>(file: &mut F) -> Result<Edges, StoreFault>
 /// file stays as it was.
 pub fn check_mbox<F: FlatFile>(file: &mut F) -> Result<(), StoreFault>
     ensures checks { F.sound file.new → F.sound file.old
-        × ChecksMbox (F.stored file.old) result (F.stored file.new) }
+        × ReadsDisk TellsMbox (F.disk file.old) result (F.disk file.new) }
     ensures fault { IfErr result (λ e. e ≢ StoreFault.NoMemory) }
-    ensures durable { F.sound file.new → FlushesDisk (F.disk file.old) result (F.disk file.new) }
-    ensures count { Tallies (refuses is_refusal result) (F.stored file.old).failures (F.stored file.new).failures }
+    ensures count { Tallies (refuses is_refusal result) (F.refusals file.old) (F.refusals file.new) }
 {
     look_at(file)?;
     Ok(())
@@ -60,10 +57,9 @@ pub fn check_mbox<F: FlatFile>(file: &mut F) -> Result<(), StoreFault>
 /// flushed: a loss of power may take back what was seen.
 pub fn peek_ends<F: FlatFile>(file: &mut F) -> Result<Edges, StoreFault>
     ensures looks { F.sound file.new → F.sound file.old
-        × Looks (F.stored file.old) result (F.stored file.new) }
+        × PeeksDisk TellsEnds (F.disk file.old) result (F.disk file.new) }
     ensures fault { IfErr result (λ e. e ≢ StoreFault.NoMemory) }
-    ensures durable { F.sound file.new → F.disk file.new ≡ F.disk file.old }
-    ensures count { Tallies (refuses is_refusal result) (F.stored file.old).failures (F.stored file.new).failures }
+    ensures count { Tallies (refuses is_refusal result) (F.refusals file.old) (F.refusals file.new) }
 {
     let edges = file.peek_edges()?;
     if !may_go_on(&edges) {
@@ -75,10 +71,9 @@ pub fn peek_ends<F: FlatFile>(file: &mut F) -> Result<Edges, StoreFault>
 /// Checks what `check_mbox` checks, but flushes nothing.
 pub fn peek_mbox<F: FlatFile>(file: &mut F) -> Result<(), StoreFault>
     ensures checks { F.sound file.new → F.sound file.old
-        × ChecksMbox (F.stored file.old) result (F.stored file.new) }
+        × PeeksDisk TellsMbox (F.disk file.old) result (F.disk file.new) }
     ensures fault { IfErr result (λ e. e ≢ StoreFault.NoMemory) }
-    ensures durable { F.sound file.new → F.disk file.new ≡ F.disk file.old }
-    ensures count { Tallies (refuses is_refusal result) (F.stored file.old).failures (F.stored file.new).failures }
+    ensures count { Tallies (refuses is_refusal result) (F.refusals file.old) (F.refusals file.new) }
 {
     peek_ends(file)?;
     Ok(())
@@ -100,10 +95,11 @@ fn front_edges(edges: &Edges, size: u64, tail: [u8; 2]) -> Edges
 /// Checks that an entry may follow a file once it is cut to its first `size` bytes; it must have that
 /// many. The file is only looked at.
 pub fn peek_front<F: FlatFile>(file: &mut F, size: u64) -> Result<(), StoreFault>
-    requires { F.sound file.old → HasBytes (F.stored file.old) size }
+    requires { F.sound file.old → HasBytes (seen_on (F.disk file.old)) size }
     ensures checks { F.sound file.new → F.sound file.old
-        × ChecksFront size (F.stored file.old) result (F.stored file.new) }
+        × LooksOn (TellsFront size) (F.disk file.old) result (F.disk file.new) }
     ensures fault { IfErr result (λ e. e ≢ StoreFault.NoMemory) }
+    ensures count { Tallies (refuses is_refusal result) (F.refusals file.old) (F.refusals file.new) }
 {
     let edges = file.peek_edges()?;
     if size == 0 {
@@ -177,14 +173,8 @@ pub fn entry_len(text: &[u8]) -> u64
 pub fn append_entry<F: FlatFile>(file: &mut F, text: Vec<u8>) -> Result<(), EntryFault>
     requires { IsWhole text.items }
     ensures appends { F.sound file.new → F.sound file.old
-        × AppendsEntry (F.stored file.old) text.items result (F.stored file.new) }
-    ensures keeps { F.sound file.new
-        → KeepsWhole (F.stored file.old).content (MayLeave (F.disk file.old)) (MayLeave (F.disk file.new)) }
-    ensures durable { F.sound file.new → Trusted (F.disk file.old).now → OnOk result (IsDurable (F.disk file.new)) }
-    ensures leaves { F.sound file.new → IsDurable (F.disk file.old)
-        → LeavesPart (F.stored file.old).content (entry_of text.items) (MayLeave (F.disk file.new))
-        × IfErr result (IsStillDurable (F.disk file.new)) }
-    ensures count { TalliesEntry result (F.stored file.old).failures (F.stored file.new).failures }
+        × AppendsEntry (F.disk file.old) text.items result (F.disk file.new) }
+    ensures count { TalliesEntry result (F.refusals file.old) (F.refusals file.new) }
 {
     let edges = look_at(file)?;
     let mut entry = text;
@@ -197,6 +187,11 @@ pub fn append_entry<F: FlatFile>(file: &mut F, text: Vec<u8>) -> Result<(), Entr
         },
     }
 }
+
+/// What calls see after an entry was appended, whatever was answered, and what a crash may leave.
+pub fn appended_entries_are_durable()
+    ensures { EntriesAreDurable }
+{}
 
 /// A file that stands for texts, followed by the entry of one more, stands for the texts and then
 /// for that one.

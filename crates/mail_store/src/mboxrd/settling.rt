@@ -1,15 +1,15 @@
 //! What is left of an entry that was about to be appended when a session was cut.
 
 ghost use Rattle.std.specs.Prelude.{◌≡◌, ◌≢◌, ◌==◌, ◌&&◌, ◌+◌, ◌%◌, ◌≤◌, ◌<◌, ◌^◌, ◌∷◌, ℕ, List, true, length, IfErr};
-ghost use Rattle.std.specs.Prelude.{OnOk, drop};
+ghost use Rattle.std.specs.Prelude.{drop};
 ghost use Rattle.mail_terms.specs.FailureCount.{Tallies, refuses};
 ghost use Rattle.mail_store.specs.{
-  Durable.{IsDurable, Trusted, MayLeave},
+  DiskCalls.LooksOn,
   Fault.is_refusal,
   Mboxrd.text_in,
-  Power.{LeavesCut, LeavesFront, LeavesNoMore},
-  Settling.{block_size, begin_with, has_size, is_lost, is_one_entry, is_ours, is_torn, is_whole, IsBehind, LooksBehind},
-  Settling.{LeftoversAreSettled, PeeksSettled, SettlesFile, WholeEntriesCount, listed_size},
+  Settling.{block_size, begin_with, has_size, is_lost, is_one_entry, is_ours, is_torn, is_whole, IsBehind},
+  Settling.{LeftoversAreSettled, TellsSettled, WholeEntriesCount, listed_size},
+  SettlingCalls.{LooksBehind, SettledFilesAreDurable, SettlesFile},
 };
 
 use crate::fault::StoreFault;
@@ -148,7 +148,6 @@ fn judge(start: u64, behind: u64, len: u64, listed: Option<u64>, rest: &[u8]) ->
 }
 
 /// Looks at what stands at `start` in a file.
-#[tactic(auto, using(crate::proofs::DiskLemmas::look_laws))]
 fn look_behind<F: FlatFile>(
     alloc: Global,
     file: &mut F,
@@ -157,11 +156,9 @@ fn look_behind<F: FlatFile>(
     listed: Option<u64>,
 ) -> Result<Behind, StoreFault>
     ensures looks { F.sound file.new → F.sound file.old
-        × LooksBehind (F.stored file.old) start len listed result (F.stored file.new) }
+        × LooksBehind start len listed (F.disk file.old) result (F.disk file.new) }
     ensures fault { IfErr result (λ e. e ≢ StoreFault.NotMbox) }
-    ensures keeps { F.sound file.new → LeavesNoMore (MayLeave (F.disk file.old)) (MayLeave (F.disk file.new)) }
-    ensures durable { F.sound file.new → Trusted (F.disk file.old).now → OnOk result (IsDurable (F.disk file.new)) }
-    ensures count { Tallies (refuses is_refusal result) (F.stored file.old).failures (F.stored file.new).failures }
+    ensures count { Tallies (refuses is_refusal result) (F.refusals file.old) (F.refusals file.new) }
 {
     let edges = file.edges()?;
     let behind = edges.size.saturating_sub(start);
@@ -196,14 +193,9 @@ pub fn settle_file<F: FlatFile>(
     listed: Option<u64>,
 ) -> Result<bool, StoreFault>
     ensures settles { F.sound file.new → F.sound file.old
-        × SettlesFile (F.stored file.old) start len listed result (F.stored file.new) }
+        × SettlesFile start len listed (F.disk file.old) result (F.disk file.new) }
     ensures fault { IfErr result (λ e. e ≢ StoreFault.NotMbox) }
-    ensures keeps { F.sound file.new
-        → LeavesFront (F.stored file.old).content start (MayLeave (F.disk file.old)) (MayLeave (F.disk file.new)) }
-    ensures durable { F.sound file.new → Trusted (F.disk file.old).now → OnOk result (IsDurable (F.disk file.new)) }
-    ensures leaves { F.sound file.new → Trusted (F.disk file.old).now
-        → LeavesCut (F.stored file.old).content start (MayLeave (F.disk file.old)) (MayLeave (F.disk file.new)) }
-    ensures count { Tallies (refuses is_refusal result) (F.stored file.old).failures (F.stored file.new).failures }
+    ensures count { Tallies (refuses is_refusal result) (F.refusals file.old) (F.refusals file.new) }
 {
     match look_behind(alloc, file, start, len, listed)? {
         Behind::Others => Ok(false),
@@ -226,8 +218,9 @@ pub fn peek_settled<F: FlatFile>(
     len: u64,
     listed: Option<u64>,
 ) -> Result<bool, StoreFault>
-    ensures { F.sound file.new → F.sound file.old
-        × PeeksSettled (F.stored file.old) start len listed result (F.stored file.new) }
+    ensures tells { F.sound file.new → F.sound file.old
+        × LooksOn (TellsSettled start len listed) (F.disk file.old) result (F.disk file.new) }
+    ensures count { Tallies (refuses is_refusal result) (F.refusals file.old) (F.refusals file.new) }
 {
     match look_behind(alloc, file, start, len, listed)? {
         Behind::Others => {
@@ -244,6 +237,11 @@ pub fn peek_settled<F: FlatFile>(
         }
     }
 }
+
+/// What calls see once a file was settled, whatever was answered, and what a crash may leave.
+pub fn settled_files_are_durable()
+    ensures { SettledFilesAreDurable }
+{}
 
 /// What a loss of power leaves of an entry that was appended to a file counts as whole only if it
 /// is all of the entry; else settling cuts the file back to what it was.
