@@ -45,8 +45,8 @@ what `BurnsForLink` says, and each of `Fused` what `Fuses` says.""",
          laws=("local_fetch:killed_calls_keep_promises",),
          definitions=("test_devices:LinkFuse:BurnsForLink", "test_devices:LinkFuse:fused_link",
                       "test_devices:LinkFuse:fused_is_sound", "test_devices:StoreFuse:Fuses",
-                      "test_devices:StoreFuse:fused_maildir", "test_devices:StoreFuse:fused_file",
-                      "test_devices:StoreFuse:FusedIsSound")),
+                      "test_devices:StoreFuse:fused_maildir", "test_devices:StoreFuse:device_of",
+                      "test_devices:StoreFuse:refusals", "test_devices:StoreFuse:FusedIsSound")),
     Part("That it happens", """\
 Over a server, folders and files in memory: losses of power happen; and a session in which nothing fails ends, and has
 stored the message that the server had.""",

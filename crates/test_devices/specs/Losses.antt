@@ -2,7 +2,7 @@
 use Rattle.std.specs.{Prelude.{◌≡◌, ℕ, List, Option}, List.filter}
 use Rattle.mail_store.specs.{
   declared.{file.flat_file.FlatFile.Ghosts as FileGhosts, maildir.disk.MaildirDisk.Ghosts as DiskGhosts},
-  Durable.MayLeave,
+  Durable.{MayLeave, seen_on},
   Loss.LosesPower,
   Maildir.{File, names_of},
 }
@@ -15,5 +15,5 @@ MailIsLost {D} disk = (device : D) → (left : D) × LosesPower (disk.maildir de
 -- a law: whatever a loss of power may leave of a file, some device finds, over which nothing else may be left
 abbrev pub FilesAreLost : {F : Type 0} → FileGhosts F → Type 0
 FilesAreLost {F} file = (device : F) (bytes : Option (List ℕ)) → MayLeave (file.disk device) bytes → (left : F)
-    × ((file.stored left).content ≡ bytes)
+    × (seen_on (file.disk left) ≡ bytes)
     × ((other : Option (List ℕ)) → MayLeave (file.disk left) other → other ≡ bytes)

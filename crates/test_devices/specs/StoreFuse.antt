@@ -2,10 +2,10 @@
 use Rattle.std.specs.Prelude.{◌≡◌, ℕ, ◌-◌, ◌/◌, ◌<◌, ◌==◌, if◌then◌else◌, List, length, take, Bool, true, false, Err}
 use Rattle.std.specs.Prelude.{Result}
 use Rattle.mail_store.specs.{
-  declared.fault.StoreFault.{StoreFault, TheVariants.Refused},
+  declared.{fault.StoreFault.{StoreFault, TheVariants.Refused}, file.flat_file.FlatFile.Ghosts as FileGhosts},
   Fault.is_refusal,
   Maildir.{Maildir, Settles, dropped},
-  FlatFile.{Stored, Appends, Replaces},
+  DiskCalls.{AppendsDisk, ReplacesDisk},
 }
 use Rattle.test_devices.specs.declared.fused.Fused.{Fused}
 use Rattle.mail_terms.specs.FailureCount.{Tallies, refuses, greatest_count}
@@ -29,10 +29,6 @@ refusals f = f.failures
 -- the Maildir behind the fuse, with the fuse's count
 abbrev pub fused_maildir : {D : Type 0} → (D → Maildir) → Fused D → Maildir
 fused_maildir maildir f = record (maildir f.device) { failures = f.failures }
-
--- the file behind the fuse, with the fuse's count
-abbrev pub fused_file : {D : Type 0} → (D → Stored) → Fused D → Stored
-fused_file stored f = record (stored f.device) { failures = f.failures }
 
 -- the device is sound, and the fuse's count is below its greatest value
 abbrev pub FusedIsSound : {D : Type 0} → (D → Type 0) → Fused D → Type 0
@@ -59,12 +55,15 @@ SettlesBehind true old name new = (answer : Result (Unit {0}) StoreFault) × Set
 SettlesBehind false old name new = new ≡ dropped old
 
 -- an `append` that the fuse refuses: the device appended the first half of the bytes, or nothing
-abbrev pub AppendsBehind : Bool → Stored → List ℕ → Stored → Type 0
-AppendsBehind true old bytes new =
-    (answer : Result (Unit {0}) StoreFault) × Appends old (take (length bytes / 2) bytes) answer new
-AppendsBehind false old bytes new = new ≡ old
+abbrev pub AppendsBehind : {D : Type 0} → FileGhosts D → Bool → D → List ℕ → D → Type 0
+AppendsBehind file true old bytes new = (answer : Result (Unit {0}) StoreFault)
+    × AppendsDisk (file.disk old) (take (length bytes / 2) bytes) answer (file.disk new)
+    × Tallies (refuses is_refusal answer) (file.refusals old) (file.refusals new)
+AppendsBehind file false old bytes new = new ≡ old
 
 -- a `replace` that the fuse refuses: the device replaced the bytes, or did nothing
-abbrev pub ReplacesBehind : Bool → Stored → List ℕ → Stored → Type 0
-ReplacesBehind true old bytes new = (answer : Result (Unit {0}) StoreFault) × Replaces old bytes answer new
-ReplacesBehind false old bytes new = new ≡ old
+abbrev pub ReplacesBehind : {D : Type 0} → FileGhosts D → Bool → D → List ℕ → D → Type 0
+ReplacesBehind file true old bytes new = (answer : Result (Unit {0}) StoreFault)
+    × ReplacesDisk (file.disk old) bytes answer (file.disk new)
+    × Tallies (refuses is_refusal answer) (file.refusals old) (file.refusals new)
+ReplacesBehind file false old bytes new = new ≡ old

@@ -237,22 +237,24 @@ impl<D: MaildirDisk> MaildirDisk for Fused<D> {
 impl<D: FlatFile> FlatFile for Fused<D> {
     ghost use Rattle.std.specs.Prelude.{◌≡◌, ◌≤◌, ◌<◌, length, IfErr, IfOk, IsSome, OnOk};
     ghost use Rattle.mail_terms.specs.FailureCount.{Tallies, refuses, greatest_count};
-    ghost use Rattle.mail_store.specs.DiskCalls.{AppendsDisk, CutsDisk, ReplacesDisk};
-    ghost use Rattle.mail_store.specs.FlatFile.{Loads, Measures, ReadsAt, Appends, Cuts, Replaces, HasBytes};
-    ghost use Rattle.mail_store.specs.Devices.{FileDoes, DurableDoes, FilePeeks, FileReads, FileRefuses};
-    ghost use Rattle.test_devices.specs.StoreFuse.{device_of, passes_left, effect_is_due, refusals, fused_file};
+    ghost use Rattle.mail_store.specs.DiskCalls.{AppendsDisk, CutsDisk, PeeksDisk, ReadsDisk, ReplacesDisk};
+    ghost use Rattle.mail_store.specs.Durable.{seen_on};
+    ghost use Rattle.mail_store.specs.FlatFile.{HasBytes, TellsBytes, TellsEdges, TellsPiece};
+    ghost use Rattle.mail_store.specs.Devices.{FileAnswers, FileDoes, FileRefuses};
+    ghost use Rattle.test_devices.specs.StoreFuse.{device_of, passes_left, effect_is_due, refusals};
     ghost use Rattle.test_devices.specs.StoreFuse.{FusedIsSound, BurnsForStore, Fuses, AppendsBehind, ReplacesBehind};
 
-    ghost stored = { λ f. fused_file D.stored f };
-
     ghost disk = { λ f. D.disk (device_of f) };
+
+    ghost refusals = { λ f. refusals f };
 
     ghost sound = { λ f. FusedIsSound D.sound f };
 
     fn load(&mut self) -> Result<Vec<u8>, StoreFault>
-        ensures loads { FileDoes ⟦<Fused<D> as FlatFile>⟧ (λ old new. Loads old result new) self.old self.new }
-        ensures flushes { FileReads ⟦<Fused<D> as FlatFile>⟧ self.old result self.new }
-        ensures fuse { Fuses (λ d. (D.stored d).failures) self.old result self.new }
+        ensures loads { FileDoes ⟦<Fused<D> as FlatFile>⟧
+            (λ old new. ReadsDisk TellsBytes old result new) self.old self.new }
+        ensures tells { FileAnswers ⟦<Fused<D> as FlatFile>⟧ self.old result self.new }
+        ensures fuse { Fuses D.refusals self.old result self.new }
     {
         self.pass()?;
         let answer = self.device.load();
@@ -260,9 +262,10 @@ impl<D: FlatFile> FlatFile for Fused<D> {
     }
 
     fn peek(&mut self) -> Result<Vec<u8>, StoreFault>
-        ensures loads { FileDoes ⟦<Fused<D> as FlatFile>⟧ (λ old new. Loads old result new) self.old self.new }
-        ensures peeks { FilePeeks ⟦<Fused<D> as FlatFile>⟧ self.old result self.new }
-        ensures fuse { Fuses (λ d. (D.stored d).failures) self.old result self.new }
+        ensures peeks { FileDoes ⟦<Fused<D> as FlatFile>⟧
+            (λ old new. PeeksDisk TellsBytes old result new) self.old self.new }
+        ensures tells { FileAnswers ⟦<Fused<D> as FlatFile>⟧ self.old result self.new }
+        ensures fuse { Fuses D.refusals self.old result self.new }
     {
         self.pass()?;
         let answer = self.device.peek();
@@ -270,9 +273,10 @@ impl<D: FlatFile> FlatFile for Fused<D> {
     }
 
     fn edges(&mut self) -> Result<Edges, StoreFault>
-        ensures measures { FileDoes ⟦<Fused<D> as FlatFile>⟧ (λ old new. Measures old result new) self.old self.new }
-        ensures flushes { FileReads ⟦<Fused<D> as FlatFile>⟧ self.old result self.new }
-        ensures fuse { Fuses (λ d. (D.stored d).failures) self.old result self.new }
+        ensures measures { FileDoes ⟦<Fused<D> as FlatFile>⟧
+            (λ old new. ReadsDisk TellsEdges old result new) self.old self.new }
+        ensures tells { FileAnswers ⟦<Fused<D> as FlatFile>⟧ self.old result self.new }
+        ensures fuse { Fuses D.refusals self.old result self.new }
     {
         self.pass()?;
         let answer = self.device.edges();
@@ -280,9 +284,10 @@ impl<D: FlatFile> FlatFile for Fused<D> {
     }
 
     fn peek_edges(&mut self) -> Result<Edges, StoreFault>
-        ensures measures { FileDoes ⟦<Fused<D> as FlatFile>⟧ (λ old new. Measures old result new) self.old self.new }
-        ensures peeks { FilePeeks ⟦<Fused<D> as FlatFile>⟧ self.old result self.new }
-        ensures fuse { Fuses (λ d. (D.stored d).failures) self.old result self.new }
+        ensures peeks { FileDoes ⟦<Fused<D> as FlatFile>⟧
+            (λ old new. PeeksDisk TellsEdges old result new) self.old self.new }
+        ensures tells { FileAnswers ⟦<Fused<D> as FlatFile>⟧ self.old result self.new }
+        ensures fuse { Fuses D.refusals self.old result self.new }
     {
         self.pass()?;
         let answer = self.device.peek_edges();
@@ -292,9 +297,9 @@ impl<D: FlatFile> FlatFile for Fused<D> {
     fn read_at(&mut self, start: u64, buf: &mut [u8]) -> Result<usize, StoreFault>
         ensures within { IfOk result (λ count. count ≤ length buf.new) }
         ensures reads { FileDoes ⟦<Fused<D> as FlatFile>⟧
-            (λ old new. ReadsAt old start result buf.new new) self.old self.new }
-        ensures flushes { FileReads ⟦<Fused<D> as FlatFile>⟧ self.old result self.new }
-        ensures fuse { Fuses (λ d. (D.stored d).failures) self.old result self.new }
+            (λ old new. ReadsDisk (TellsPiece start buf.new) old result new) self.old self.new }
+        ensures tells { FileAnswers ⟦<Fused<D> as FlatFile>⟧ self.old result self.new }
+        ensures fuse { Fuses D.refusals self.old result self.new }
     {
         self.pass()?;
         let answer = self.device.read_at(start, buf);
@@ -302,17 +307,14 @@ impl<D: FlatFile> FlatFile for Fused<D> {
     }
 
     fn append(&mut self, bytes: &[u8]) -> Result<(), StoreFault>
-        requires { FusedIsSound D.sound self.old → IsSome (D.stored (device_of self.old)).content }
+        requires { FusedIsSound D.sound self.old → IsSome (seen_on (D.disk (device_of self.old))) }
         ensures appends { FileDoes ⟦<Fused<D> as FlatFile>⟧
-            (λ old new. Appends old bytes.now result new) self.old self.new }
-        ensures durable { DurableDoes ⟦<Fused<D> as FlatFile>⟧
             (λ old new. AppendsDisk old bytes.now result new) self.old self.new }
         ensures refuses { FileRefuses ⟦<Fused<D> as FlatFile>⟧ self.old result self.new }
         ensures fuse { (refusals self.old < greatest_count
-            → BurnsForStore (λ d. (D.stored d).failures) self.old result self.new)
+            → BurnsForStore D.refusals self.old result self.new)
             × (passes_left self.old ≡ 0 → FusedIsSound D.sound self.new
-            → AppendsBehind (effect_is_due self.old) (D.stored (device_of self.old)) bytes.now
-            (D.stored (device_of self.new))) }
+            → AppendsBehind D.FlatFile (effect_is_due self.old) (device_of self.old) bytes.now (device_of self.new)) }
     {
         if self.is_last_effect() {
             let _ = self.device.append(&bytes[..bytes.len() / 2]);
@@ -324,12 +326,10 @@ impl<D: FlatFile> FlatFile for Fused<D> {
     }
 
     fn cut_to(&mut self, len: u64) -> Result<(), StoreFault>
-        requires { FusedIsSound D.sound self.old → HasBytes (D.stored (device_of self.old)) len }
-        ensures cuts { FileDoes ⟦<Fused<D> as FlatFile>⟧ (λ old new. Cuts old len result new) self.old self.new }
-        ensures durable { DurableDoes ⟦<Fused<D> as FlatFile>⟧
-            (λ old new. CutsDisk old len result new) self.old self.new }
+        requires { FusedIsSound D.sound self.old → HasBytes (seen_on (D.disk (device_of self.old))) len }
+        ensures cuts { FileDoes ⟦<Fused<D> as FlatFile>⟧ (λ old new. CutsDisk old len result new) self.old self.new }
         ensures refuses { FileRefuses ⟦<Fused<D> as FlatFile>⟧ self.old result self.new }
-        ensures fuse { Fuses (λ d. (D.stored d).failures) self.old result self.new }
+        ensures fuse { Fuses D.refusals self.old result self.new }
     {
         self.pass()?;
         let answer = self.device.cut_to(len);
@@ -338,15 +338,12 @@ impl<D: FlatFile> FlatFile for Fused<D> {
 
     fn replace(&mut self, bytes: &[u8]) -> Result<(), StoreFault>
         ensures replaces { FileDoes ⟦<Fused<D> as FlatFile>⟧
-            (λ old new. Replaces old bytes.now result new) self.old self.new }
-        ensures durable { DurableDoes ⟦<Fused<D> as FlatFile>⟧
             (λ old new. ReplacesDisk old bytes.now result new) self.old self.new }
         ensures refuses { FileRefuses ⟦<Fused<D> as FlatFile>⟧ self.old result self.new }
         ensures fuse { (refusals self.old < greatest_count
-            → BurnsForStore (λ d. (D.stored d).failures) self.old result self.new)
+            → BurnsForStore D.refusals self.old result self.new)
             × (passes_left self.old ≡ 0 → FusedIsSound D.sound self.new
-            → ReplacesBehind (effect_is_due self.old) (D.stored (device_of self.old)) bytes.now
-            (D.stored (device_of self.new))) }
+            → ReplacesBehind D.FlatFile (effect_is_due self.old) (device_of self.old) bytes.now (device_of self.new)) }
     {
         if self.is_last_effect() {
             let _ = self.device.replace(bytes);
@@ -361,5 +358,5 @@ impl<D: FlatFile> FlatFile for Fused<D> {
         self.failures.count()
     }
 
-    ghost shown = { λ f. D.shown (device_of f) };
+    ghost below = { λ f sound. sound.1 };
 }
