@@ -41,7 +41,7 @@ LeftMaildirsStay {D} disk folders = (old left : Directories) (device : D) → Lo
 -- a law: over the same file of the same folder, a device sees the same bytes, and the same of them is durable
 abbrev pub NewFilesKeepBytes : {D : Type 0} → FileGhosts D → (D → Directory) → (D → List ℕ) → Type 0
 NewFilesKeepBytes {D} files folder name = (was device : D) → folder device ≡ folder was → name device ≡ name was
-    → ((files.stored device).content ≡ (files.stored was).content) × (files.disk device ≡ files.disk was)
+    → files.disk device ≡ files.disk was
 
 -- a law: over a folder that a loss of power left, what a device sees is durable
 abbrev pub LeftFilesStand : {D : Type 0} → FileGhosts D → (D → Directory) → Type 0

@@ -1,11 +1,11 @@
 //! A file in a folder of a file system.
 
-ghost use Rattle.std.{specs.Prelude.{◌≡◌, ◌<◌, IfNone, IfSome, IsSomeAnd, false}, proofs.Common.refl};
+ghost use Rattle.std.specs.Prelude.{◌≡◌, ◌<◌, IfNone, IfSome, IsSomeAnd, false};
 ghost use Rattle.mail_terms.specs.FailureCount.{greatest_count};
-ghost use Rattle.mail_store.specs.DiskCalls.{FlushesBoth};
+ghost use Rattle.mail_store.specs.{Devices.stored_in, DiskCalls.FlushesBoth};
 ghost use Rattle.folder_store.specs.{
   CutOff.has_others,
-  HostFile.{FlushHolds, stored_in, unknown_file},
+  HostFile.{FlushHolds, unknown_file},
   HostPaths.IsFileAt,
   NewDevices.{LeftFilesStand, NewFilesKeepBytes},
   PowerLoss.disk_at,
@@ -60,7 +60,7 @@ impl<'a, F: FolderState> HostFile<'a, F> {
 impl<'a, F: FileFolder + Drop> HostFile<'a, F> {
     /// The file of a name in a folder. There need be none.
     pub fn over(folder: F, name: &'a str, appending: Appending) -> HostFile<'a, F>
-        ensures stored { ⟦<HostFile<'a, F> as FlatFile>⟧.stored result ≡ stored_in (F.directory folder) name.now 0 }
+        ensures refusals { ⟦<HostFile<'a, F> as FlatFile>⟧.refusals result ≡ 0 }
         ensures disk { ⟦<HostFile<'a, F> as FlatFile>⟧.disk result ≡ disk_at (F.directory folder) name.now }
         ensures parts { (result.folder ≡ folder) × (result.name.now ≡ name.now) }
     {
@@ -135,7 +135,7 @@ impl<'a, R: Files + AllocGlobal> HostFile<'a, HostFolder<'a, R>> {
         path: &'a str,
         mark: ProcessMark,
     ) -> HostFile<'a, HostFolder<'a, R>>
-        ensures state { ⟦<HostFile<'a, HostFolder<'a, R>> as FlatFile>⟧.stored result ≡ unknown_file }
+        ensures state { stored_in ⟦<HostFile<'a, HostFolder<'a, R>> as FlatFile>⟧ result ≡ unknown_file }
         ensures place { IsFileAt result.folder.paths result.name.now path.now }
     {
         let (folder, name) = parts_of(path);
@@ -151,7 +151,7 @@ impl<'a, R: Files + AllocGlobal> HostFile<'a, HostFolder<'a, R>> {
         path: &'a str,
         mark: ProcessMark,
     ) -> HostFile<'a, HostFolder<'a, R>>
-        ensures state { ⟦<HostFile<'a, HostFolder<'a, R>> as FlatFile>⟧.stored result ≡ unknown_file }
+        ensures state { stored_in ⟦<HostFile<'a, HostFolder<'a, R>> as FlatFile>⟧ result ≡ unknown_file }
         ensures place { IsFileAt result.folder.paths result.name.now path.now }
     {
         let (folder, name) = parts_of(path);
@@ -167,7 +167,7 @@ impl<'a, R: Files + AllocGlobal> HostFile<'a, HostFolder<'a, R>> {
         cut_off: &'a str,
         mark: ProcessMark,
     ) -> HostFile<'a, HostFolder<'a, R>>
-        ensures state { ⟦<HostFile<'a, HostFolder<'a, R>> as FlatFile>⟧.stored result ≡ unknown_file }
+        ensures state { stored_in ⟦<HostFile<'a, HostFolder<'a, R>> as FlatFile>⟧ result ≡ unknown_file }
         ensures place { IsFileAt result.folder.paths result.name.now path.now }
         ensures rests { IsSomeAnd result.cut_off (λ kept. IsFileAt kept.folder.paths kept.name.now cut_off.now) }
     {
@@ -202,9 +202,9 @@ impl<'a, R: Files + Clock + AllocGlobal + Clone + Drop> HostFile<'a, HostFolder<
 }
 
 impl<'a, F: FileFolder + Drop> FlatFile for HostFile<'a, F> {
-    ghost stored = { λ f. stored_in (F.directory f.folder) f.name.now f.failures };
-
     ghost disk = { λ f. disk_at (F.directory f.folder) f.name.now };
+
+    ghost refusals = { λ f. f.failures };
 
     ghost sound = { λ f. F.sound f.folder × (f.failures < greatest_count) };
 
@@ -306,7 +306,7 @@ impl<'a, F: FileFolder + Drop> FlatFile for HostFile<'a, F> {
         self.failures.count()
     }
 
-    ghost shown = { λ f. refl };
+    ghost below = { λ f sound. sound.1 };
 }
 
 /// A file made anew over the same folder has what the last one had, and the same of it is durable; over a folder that
