@@ -20,7 +20,7 @@ use Rattle.fetch_session.specs.{
   declared.fault.Why.TheVariants.{Missing, Refused, NotMbox},
   Fault.fault_of,
   Cuts.{ArePlanned, CausesFault, CutsHaveCauses, refused_in},
-  Mbox.{IsStoreFault, RefusesEntry},
+  Mbox.{IsStoreFault, LeavesSame, RefusesEntry},
   Opening.{Enters, opening},
   CarryingOut.{Carried, tasks_ahead},
   Readiness.{CausesUnready, SettlesStore},
@@ -118,13 +118,14 @@ module _ (settings : Settings) (now : ℕ) (link : Link) (before : Keeping) (old
       by SeenRefused (_, (_, _, saves)) = omega (arith, file_count, saves.0)
       by NoMemory _ = tt
       by _ refuses = absurd refuses
-  by_store AsEntries less (inr (inr left)) = by left.refuses.0 left.refuses.1 left.refuses.2
+  by_store AsEntries less (inr (inr left)) = let (why, is, look, same) = left.refuses in by why is look same
     where
-      by : (why : StoreFault) → IsStoreFault why cut.fault → RefusesLook old.store.mbox why new.store.mbox → Causes AsEntries cut.fault
-      by refused.Missing is (none, same) = rw is (rw same none)
-      by refused.Refused is same = rw is (omega (arith, less, ap (λ (s : Stored). s.failures) same))
-      by refused.NotMbox is (other, same) = rw is (rw same other)
-      by refused.NoMemory is _ = rw is tt
+      by : (why : StoreFault) → IsStoreFault why cut.fault → RefusesLook old.store.mbox.content why
+          → LeavesSame {T = Unit {0}} old.store.mbox (Err why) new.store.mbox → Causes AsEntries cut.fault
+      by refused.Missing is none same = rw is (rw same none)
+      by refused.Refused is _ same = rw is (omega (arith, less, ap (λ (s : Stored). s.failures) same))
+      by refused.NotMbox is other same = rw is (rw same other)
+      by refused.NoMemory is never _ = absurd never
 
   -- saving the record failed
   by_saving : (target : Target) (fault : Fault) (file : Stored) (was now : RecordState) → before.file.failures ≤ file.failures

@@ -1,4 +1,5 @@
 -- What parts of a session keep and do, one after the other, and QUIT at their end.
+use Rattle.mail_store.specs.Devices.{stored_in}
 use Rattle.std.{
   proofs.Common.{rules, ◌≡◌, ◌≤◌, ◌+◌, ◌*◌, ℕ, Bool, true, false, List, [], ◌∷◌, ◌++◌, length, None, Result, Ok, Err, IfErr, OnErr, OnOk},
   proofs.Common.{◌⊎◌, refl, sym, ap, subst, ◌∙◌, inl, arith, append_assoc, length-append, Vec, Global, Option, inr},
@@ -35,8 +36,8 @@ use Rattle.fetch_session.{
   specs.Task.{Task, stores, ids_in, ids_ahead, turns_in, turns_ahead, AreFresh, fetching, deleting, tasks_in, tasks_planned, says},
   proofs.ReadyLemmas.{fetched_all, OneMore, ahead, fresh_grows},
   proofs.TalkLemmas.{most_tail, takes_on, took_broke, took_less, took_nothing, with_tail_on, cut_by, till_cut},
-  proofs.SessionLemmas.{good_before, good_more, in_kind, keeps_same, no_more_keeps, none_durable, nothing_cut, grown_left, rows_last},
-  proofs.SessionLemmas.{same_left, scene_at, texts_ok},
+  proofs.SessionLemmas.{good_before, good_more, in_kind, keeps_same, none_durable, nothing_cut, grown_left, rows_last},
+  proofs.{RecordLemmas.no_more_keeps, SessionLemmas.{same_left, scene_at, texts_ok}},
   proofs.SceneLemmas.{did_then, all_sound, all_none, all_weaker, fell_first, on_any},
 }
 use Rattle.pop3_wire.specs.{declared.wire.Wire.Ghosts as WireGhosts, Link.WhereSound, Place.Place}
@@ -305,8 +306,8 @@ module _ {W D F H Z : Type 0} {link : WireGhosts W} {disk : DiskGhosts D} {file 
 pub good_task : {D F H Z : Type 0} (disk : DiskGhosts D) {file : FileGhosts F} (target : Target) (task : Task)
     (a b : Place) (old new : Work D F H Z) (r : Result (Unit {0}) Cut)
     → TakesTask target task (scene_at disk file a old) r (scene_at disk file b new)
-    → KeepsWork file old new → Steady (file.stored old.ledger.file).content (none_open old.ledger.seen.rows)
-    → OnOk r (Steady (file.stored new.ledger.file).content (none_open new.ledger.seen.rows))
+    → KeepsWork file old new → Steady (stored_in file old.ledger.file).content (none_open old.ledger.seen.rows)
+    → OnOk r (Steady (stored_in file new.ledger.file).content (none_open new.ledger.seen.rows))
     → (IsSafeWork file old → OnOk r (IsSafeWork file new))
     → (IsSafeWork file old → LeavesFile file new.ledger.file (AreLeft old.ledger.seen.rows (marked_all old.ledger.seen.rows (ids_in task))))
     → (IsSafeWork file old → IfErr r (λ cut. DurableCut file target task (scene_at disk file a old) cut (scene_at disk file b new)
@@ -446,11 +447,11 @@ pub record Entered {W D F H Z : Type 0} (link : WireGhosts W) (disk : DiskGhosts
       (TakesTask AsEntries (stores number uid) (scene_of link disk file c (over_mbox m l)) r
       (scene_of link disk file c' (over_mbox m' l')))
   pub keeps : file.sound m' → file.sound l'.file
-      → KeepsWhole (file.stored m).content (MayLeave (file.disk m)) (MayLeave (file.disk m'))
+      → KeepsWhole (stored_in file m).content (MayLeave (file.disk m)) (MayLeave (file.disk m'))
       × StillDurable file l.seen.rows l.file l'.file
   pub durable : file.sound m' → file.sound l'.file → Trusted (file.disk m).now → IsSafeFile file l.file
       → OnOk r (IsSafeFile file m' × IsSafeFile file l'.file) × (IsSafeFile file m → link.sound c'.wire.now
-      → IfErr r (λ cut. LeavesBoth file (file.stored m).content m' l'.file (IsCutLeft (stores number uid)
+      → IfErr r (λ cut. LeavesBoth file (stored_in file m).content m' l'.file (IsCutLeft (stores number uid)
       (scene_of link disk file c (over_mbox m l)) cut (scene_of link disk file c' (over_mbox m' l')))))
 
 pub entered : {W D F H Z : Type 0} {link : WireGhosts W} {disk : DiskGhosts D} {file : FileGhosts F} {number : ℕ}

@@ -1,4 +1,5 @@
 -- What is planned and which ids stay fresh, what a session has ready, or why it isn't ready, and what of it is durable.
+use Rattle.mail_store.specs.Devices.{stored_in}
 use Rattle.std.{
   proofs.Common.{◌≡◌, ◌≢◌, ◌&&◌, Some, inl, inr, ◌<◌, ◌+◌, ℕ, suc, Bool, true, false, List, [], ◌∷◌, ◌++◌, drop, get_or, length, refl, sym},
   proofs.Common.{ap, ◌∙◌, arith, append_assoc, ◌⊎◌, ◌||◌, bytes_eq, drop-cons, map, take, Option, Ok, subst, HoldsAt, Result, Err, All},
@@ -187,8 +188,8 @@ module _ {D F : Type 0} (disk : DiskGhosts D) (files : FileGhosts F) where
   -- the store wasn't asked, and the record's file has the same bytes
   pub unasked : {A B safe : Type 0} {settings : Settings} {items : List Item} {now : ℕ} {fault : Fault}
       {after : List Row} (was : Store D F) (from f : F) (target : Target) → A → B
-      → CausesUnready target items fault (stores_of disk files was) (files.stored from) (stores_of disk files was)
-      (files.stored f) → (files.stored f).content ≡ (files.stored from).content
+      → CausesUnready target items fault (stores_of disk files was) (stored_in files from) (stores_of disk files was)
+      (stored_in files f) → (stored_in files f).content ≡ (stored_in files from).content
       → LeavesNoMore (MayLeave (files.disk from)) (MayLeave (files.disk f)) → A × B × AfterTakingIn (stores_of disk files was)
       (λ left. ReadiesDurably disk files safe was from settings target items now left (Err fault) after was f)
   unasked _ _ f _ a b why same no_more = (
@@ -199,7 +200,7 @@ module _ {D F : Type 0} (disk : DiskGhosts D) (files : FileGhosts F) where
 
   -- the same if the record's file was read and flushed before
   module _ (was : Store D F) (from mid f : F) (no_more : LeavesNoMore (MayLeave (files.disk from)) (MayLeave (files.disk mid)))
-      (same : files.stored mid ≡ files.stored from) where
+      (same : stored_in files mid ≡ stored_in files from) where
     ready_from : (settings : Settings) (target : Target) (items : List Item) (now : ℕ) (old new : Stores)
         (file file' : Stored) (after : List Row) (store : Store D F) (r : Result Ready Fault)
         → (is : Readies settings target items now old file r after new file')
@@ -229,9 +230,9 @@ module _ {D F : Type 0} (disk : DiskGhosts D) (files : FileGhosts F) where
         → ReadiesDurably disk files trust was from settings target items now old r after store f
     readies_from {trust} {store} {settings} {target} {items} {now} {old} {r} {after} firm is =
         let both = subst (λ (file : Stored). (readies : Readies settings target items now old file r after
-        (stores_of disk files store) (files.stored f))
+        (stores_of disk files store) (stored_in files f))
         × (trust → DurableReady files was from settings target items now old file r after (stores_of disk files store)
-        (files.stored f) readies store f)) same (
+        (stored_in files f) readies store f)) same (
           is.readies,
           λ s. ready_from _ _ _ _ _ _ _ _ _ _ r _ (is.durable (firm s)),
         ) in
@@ -387,7 +388,7 @@ stop_of (Err fault) = fault
 
 module _ {D F : Type 0} (disk : DiskGhosts D) (files : FileGhosts F) (was place : Store D F) (from f : F) (account : List ℕ)
     (settings : Settings) (items : List Item) (now : ℕ) (left : Maildir) (loaded : Loaded) (found : Found)
-    (stood : FileReadAs (files.stored from).content loaded)
+    (stood : FileReadAs (stored_in files from).content loaded)
     (law : MergesAsk) (is_record : IsRecord loaded.rows)
     (finds : FindsIn settings.read_all (target_of was account) (record_state_in loaded)
     (with_maildir (stores_of disk files was) left) items (Ok found)
@@ -398,7 +399,7 @@ module _ {D F : Type 0} (disk : DiskGhosts D) (files : FileGhosts F) (was place 
   abbrev state : RecordState
   state = record_state_in loaded
 
-  kept : Keeps (files.stored from).content state
+  kept : Keeps (stored_in files from).content state
   kept = read_keeps _ _ stood
 
   abbrev here : List Row
@@ -416,26 +417,27 @@ module _ {D F : Type 0} (disk : DiskGhosts D) (files : FileGhosts F) (was place 
 
   -- why it isn't ready, if memory ran out, or if the record's file was refused
   cause : (t : Target) → SettlesStore t state items store (stores_of disk files place)
-      → CausesUnready t items NoMemory store (files.stored from) (stores_of disk files place) (files.stored f)
-      × ((files.stored from).failures < (files.stored f).failures
-      → CausesUnready t items SeenRefused store (files.stored from) (stores_of disk files place) (files.stored f))
+      → CausesUnready t items NoMemory store (stored_in files from) (stores_of disk files place) (stored_in files f)
+      × ((stored_in files from).failures < (stored_in files f).failures
+      → CausesUnready t items SeenRefused store (stored_in files from) (stores_of disk files place) (stored_in files f))
   cause (AsFiles _) same = let is = ap (λ (s : Stores). s.maildir) same in (is, λ risen. (risen, is))
   cause AsEntries (bytes, is, now, _) = let settled = inr (state, kept, inr (bytes, is, cc)) in (settled, λ risen. (risen, settled))
 
-  reason : (r : Result (Unit {0}) Fault) → Merges (files.stored from) state (none_open here) r (files.stored f)
-      → CausesUnready (target_of was account) items (stop_of r) store (files.stored from) (stores_of disk files place) (files.stored f)
+  reason : (r : Result (Unit {0}) Fault) → Merges (stored_in files from) state (none_open here) r (stored_in files f)
+      → CausesUnready (target_of was account) items (stop_of r) store (stored_in files from) (stores_of disk files place)
+      (stored_in files f)
   reason (Ok _) _ = (cause _ is.2).0
   reason (Err SeenRefused) merges = (cause _ is.2).1 (omega (arith, merges.0))
   reason (Err NoMemory) _ = (cause _ is.2).0
   reason (Err _) never = absurd never
 
   -- what the record's file stands for
-  stands : (r : Result (Unit {0}) Fault) → Merges (files.stored from) state (none_open here) r (files.stored f)
-      → Keeps (files.stored f).content state
-      ⊎ Keeps (files.stored f).content (none_open (merged_in (target_of was account) store state items now))
-  stands (Ok done) merges = inr (rw as_now at (steady_keeps (files.stored f).content (none_open here) merges.1))
+  stands : (r : Result (Unit {0}) Fault) → Merges (stored_in files from) state (none_open here) r (stored_in files f)
+      → Keeps (stored_in files f).content state
+      ⊎ Keeps (stored_in files f).content (none_open (merged_in (target_of was account) store state items now))
+  stands (Ok done) merges = inr (rw as_now at (steady_keeps (stored_in files f).content (none_open here) merges.1))
   stands (Err SeenRefused) merges = rw as_now at merges.1
-  stands (Err NoMemory) merges = inl (rw merges kept)
+  stands (Err NoMemory) merges = inl (subst (λ (s : Stored). Keeps s.content state) (sym merges) kept)
   stands (Err _) never = absurd never
 
   abbrev now_rows : List Row
@@ -443,10 +445,11 @@ module _ {D F : Type 0} (disk : DiskGhosts D) (files : FileGhosts F) (was place 
 
   -- a durable record with an open intent is what was read
   read_left : {intent : Intent} → loaded.intent ≡ Some intent → IsSafeFile files from → (left : Option (List ℕ))
-      → MayLeave (files.disk from) left → left ≡ (files.stored from).content
+      → MayLeave (files.disk from) left → left ≡ (stored_in files from).content
   read_left opened firm left may = by _ refl kept
     where
-      by : (content : Option (List ℕ)) → (files.stored from).content ≡ content → Keeps content state → left ≡ (files.stored from).content
+      by : (content : Option (List ℕ)) → (stored_in files from).content ≡ content → Keeps content state → left ≡
+          (stored_in files from).content
       by None is keeps = absurd (let never = sym keeps.1 ∙ opened in cc)
       by (Some bytes) is _ = (firm.1 bytes is).1 left may ∙ sym is
 
@@ -455,7 +458,8 @@ module _ {D F : Type 0} (disk : DiskGhosts D) (files : FileGhosts F) (was place 
       → LeavesMerged (MayLeave (files.disk from)) state now_rows (MayLeave (files.disk f)) → IsSafeStore files place
       → LeavesSettled loaded.intent (mbox_of files was).content (may_leave_in files was) (may_leave_in files place)
       → ((loaded.intent ≡ None) × LeavesMerged (MayLeave (files.disk from)) state now_rows (MayLeave (files.disk f))
-      × LeavesStore files was place) ⊎ (LeavesMerged (λ left. left ≡ (files.stored from).content) state now_rows (MayLeave (files.disk f))
+      × LeavesStore files was place) ⊎ (LeavesMerged (λ left. left ≡ (stored_in files from).content) state now_rows
+      (MayLeave (files.disk f))
       × IsSafeStore files place)
   merging None closed firm leaves whole settled = inl (
     closed,
@@ -468,7 +472,7 @@ module _ {D F : Type 0} (disk : DiskGhosts D) (files : FileGhosts F) (was place 
 
   -- it wasn't saved, or memory ran out for the plan
   pub unready : {safe : Type 0} {after : List Row} (r : Result (Unit {0}) Fault)
-      → Merges (files.stored from) state (none_open here) r (files.stored f) → (safe → IsSafeFile files from
+      → Merges (stored_in files from) state (none_open here) r (stored_in files f) → (safe → IsSafeFile files from
       × LeavesMerged (MayLeave (files.disk from)) state here (MayLeave (files.disk f)) × IsSafeStore files place
       × LeavesSettled loaded.intent (mbox_of files was).content (may_leave_in files was) (may_leave_in files place))
       → ReadiesDurably disk files safe was from settings (target_of was account) items now store (Err (stop_of r)) after place f
@@ -482,7 +486,8 @@ module _ {D F : Type 0} (disk : DiskGhosts D) (files : FileGhosts F) (was place 
   }
 
   pub ready : {safe : Type 0} (plan : Ready) {after : List Row} → HeldIsDelivered → MarkedIsDelivered
-      → FetchesAsked settings after plan.steps.items items → Merges (files.stored from) state (none_open here) (Ok tt) (files.stored f)
+      → FetchesAsked settings after plan.steps.items items → Merges (stored_in files from) state (none_open here) (Ok tt)
+      (stored_in files f)
       → after ≡ here → plan.held.items ≡ found.held.items → ((is_odd : List ℕ → Bool)
       → found.odd.items ≡ map (λ (item : Item). is_odd item.uid) items → plan.steps.items ≡ planned settings is_odd after items now)
       → (safe → IsSafeFile files f × IsSafeStore files place)
@@ -545,8 +550,8 @@ flags_length AsEntries _ items = length-map items (λ _. false)
 
 -- the record was read and written anew
 pub is_anew : (loaded : Loaded) (old new : Stored) → FileReadAs old.content loaded → loaded.intent ≡ None
-    → loaded.stale ≡ true → new ≡ holding old (file_of loaded.rows loaded.intent) → IsAnew loaded.rows old new
-is_anew loaded old new stood closed stale is = (rw closed at (read_keeps old.content loaded stood), (loaded, stood, stale), rw closed at is)
+    → loaded.stale ≡ true → new ≡ holding old (file_of loaded.rows None) → IsAnew loaded.rows old new
+is_anew loaded old new stood closed stale is = (rw closed at (read_keeps old.content loaded stood), (loaded, stood, stale), is)
 
 -- there is no place
 pub no_place : (kind : Kind) (items : List Item) (old new : Stores) (refusal : StoreFault) (fault : Fault)
@@ -574,7 +579,7 @@ module _ {D F : Type 0} (disk : DiskGhosts D) (files : FileGhosts F) (account : 
   module _ {settings : Settings} {items : List Item} {now : ℕ} (store store' : Store D F) (from f : F) (loaded : Loaded) (steps : List Step)
       (law : (rows : List Row) (listing : List Item) (held : List Bool) (now : ℕ) → IsRecord rows
       → All (λ (item : Item). is_delivered rows item.uid ≡ true) listing → merged rows listing held now ≡ rows)
-      (stood : FileReadAs (files.stored from).content loaded) (idle : IsIdle settings loaded items now steps) where
+      (stood : FileReadAs (stored_in files from).content loaded) (idle : IsIdle settings loaded items now steps) where
     abbrev looked_at : Stores
     looked_at = stores_of disk files store
 
@@ -588,9 +593,10 @@ module _ {D F : Type 0} (disk : DiskGhosts D) (files : FileGhosts F) (account : 
         cc (rows_same store was_read items idle.closed, law loaded.rows items flags now idle.is_record idle.known)
 
     pub rested : {safe : Type 0} (ready : Ready) → ChecksIdle (kind_of store) looked_at items (Ok ready) (stores_of disk files store')
-        → (kept : IsFileKept loaded.rows (files.stored from) (files.stored f)) → Steady (files.stored f).content (none_open loaded.rows)
-        → (files.stored f).failures ≡ (files.stored from).failures
-        → DurableKept files from loaded.rows (files.stored from) (files.stored f) kept f → LeavesStore files store store'
+        → (kept : IsFileKept loaded.rows (stored_in files from) (stored_in files f)) → Steady (stored_in files f).content
+        (none_open loaded.rows)
+        → (stored_in files f).failures ≡ (stored_in files from).failures
+        → DurableKept files from loaded.rows (stored_in files from) (stored_in files f) kept f → LeavesStore files store store'
         → ready.steps.items ≡ steps → length ready.held.items ≡ length items
         → ReadiesDurably disk files safe store from settings (target_of store account) items now looked_at (Ok ready) loaded.rows store' f
     rested ready rests kept saved count lasting still are counted = record {
@@ -615,26 +621,26 @@ module _ {D F : Type 0} (disk : DiskGhosts D) (files : FileGhosts F) (account : 
     unrested fault finds still same = record {
       readies = record {
         cause = by store finds;
-        content = inl (ap (λ (d : F). (files.stored d).content) same);
+        content = inl (ap (λ (d : F). (stored_in files d).content) same);
       };
       durable = λ trust. (λ left may. subst (λ (d : F). MayLeave (files.disk d) left) same may, inl still);
     }
       where
         by : (store : Store D F) → ChecksIdle (kind_of store) (stores_of disk files store) items (Err fault) (stores_of disk files store')
-            → CausesUnready (target_of store account) items fault (stores_of disk files store) (files.stored from)
-            (stores_of disk files store') (files.stored f)
+            → CausesUnready (target_of store account) items fault (stores_of disk files store) (stored_in files from)
+            (stores_of disk files store') (stored_in files f)
         by (InMaildir device) finds =
             not_found false (AsFiles account) items (in_maildir (disk.maildir device)) (stores_of disk files store')
-            (files.stored from) (files.stored f) loaded fault stood finds
-        by (InMbox device) finds = not_found false AsEntries items (in_mbox (files.stored device))
-            (stores_of disk files store') (files.stored from) (files.stored f) loaded fault stood
-            (subst (λ (intent : Option Intent). AsksMbox intent (files.stored device) items (Err fault)
+            (stored_in files from) (stored_in files f) loaded fault stood finds
+        by (InMbox device) finds = not_found false AsEntries items (in_mbox (stored_in files device))
+            (stores_of disk files store') (stored_in files from) (stored_in files f) loaded fault stood
+            (subst (λ (intent : Option Intent). AsksMbox intent (stored_in files device) items (Err fault)
             (stores_of disk files store').mbox) (sym idle.closed) finds.0)
 
     -- the record's file couldn't be written anew
     pub unrenewed : {safe : Type 0} (ready : Ready) (fault : Fault)
         → ChecksIdle (kind_of store) looked_at items (Ok ready) (stores_of disk files store')
-        → Merges (files.stored from) was_read was_read (Err fault) (files.stored f)
+        → Merges (stored_in files from) was_read was_read (Err fault) (stored_in files f)
         → LeavesMerged (MayLeave (files.disk from)) was_read loaded.rows (MayLeave (files.disk f)) → LeavesStore files store store'
         → ReadiesDurably disk files safe store from settings (target_of store account) items now looked_at (Err fault) loaded.rows store' f
     unrenewed ready fault rests merges leaves still = record {
@@ -653,19 +659,19 @@ module _ {D F : Type 0} (disk : DiskGhosts D) (files : FileGhosts F) (account : 
       durable = λ _. inl (idle.closed, rw merged_same leaves, still);
     }
       where
-        kept : Keeps (files.stored from).content was_read
+        kept : Keeps (stored_in files from).content was_read
         kept = read_keeps _ _ stood
 
-        stands : (fault : Fault) → Merges (files.stored from) was_read was_read (Err fault) (files.stored f)
-            → Keeps (files.stored f).content was_read
+        stands : (fault : Fault) → Merges (stored_in files from) was_read was_read (Err fault) (stored_in files f)
+            → Keeps (stored_in files f).content was_read
         stands SeenRefused merges = ⊎_elim (λ is. is) (λ is. is) merges.1
-        stands NoMemory merges = rw merges kept
+        stands NoMemory merges = subst (λ (s : Stored). Keeps s.content was_read) (sym merges) kept
         stands _ never = absurd never
 
-        why : (fault : Fault) → Merges (files.stored from) was_read was_read (Err fault) (files.stored f) → (store : Store D F)
+        why : (fault : Fault) → Merges (stored_in files from) was_read was_read (Err fault) (stored_in files f) → (store : Store D F)
             → ChecksIdle (kind_of store) (stores_of disk files store) items (Ok ready) (stores_of disk files store')
-            → CausesUnready (target_of store account) items fault (stores_of disk files store) (files.stored from)
-            (stores_of disk files store') (files.stored f)
+            → CausesUnready (target_of store account) items fault (stores_of disk files store) (stored_in files from)
+            (stores_of disk files store') (stored_in files f)
         why SeenRefused merges (InMaildir _) ((_, _, same), _) = (omega (arith, merges.0), same)
         why SeenRefused merges (InMbox _) ((_, same), _) = (omega (arith, merges.0), inl (cc))
         why NoMemory _ (InMaildir _) ((_, _, same), _) = same

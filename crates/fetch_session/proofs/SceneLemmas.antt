@@ -4,30 +4,31 @@ use Rattle.std.{
   proofs.Common.{◌≡◌, ◌≢◌, ◌⊎◌, inl, inr, ℕ, Bool, false, List, [], ◌∷◌, ◌++◌, Option, None, Some, Result, Ok, Err, ◌≤◌, refl, sym, ap},
   proofs.Common.{arith, ◌∙◌, OnOk, ◌==◌, ◌||◌, true, if◌then◌else◌, length, append-nil, subst, append_assoc, option_map, take},
   proofs.Common.length-append,
-  proofs.lemmas.{Bool.{true≢false, or_parts, Decides.nat_tests}, Grind.flat_map-append, List.{append-nil, map-append}},
+  proofs.lemmas.{Bool.{true≢false, or_parts}, Grind.flat_map-append, List.{append-nil, map-append}},
   proofs.lemmas.Iterator.Adapters.option_map_id,
   proofs.Math.Seq.take-append_seam,
   specs.List.{flat_map, AllByRecursion},
 }
 use Rattle.fetch_record.specs.{
   Record.{Row, Intent, RecordState, Loaded, none_open, IsIntent, has_row, marked, marked_all},
-  RecordFile.{Version, One, Two, header, file_of, intent_line},
+  RecordFile.{Version, One, Two, header, intent_line},
   RecordMeaning.{Rows, Means, has_bytes, with_taken, Fault as Faulty},
   RecordGrowth.{Updates, Grows, AppendedCounts, CutIsIgnored, taken_all},
   Intents.{has_intent, is_older, closed_rows},
   declared.seen.SeenFault.{SeenFault, TheVariants.NoMemory as WantsMemory},
 }
 use Rattle.mail_terms.proofs.ListLemmas.{all_append}
+use Rattle.mail_store.proofs.DiskLemmas.{Appends, Cuts}
 use Rattle.mail_store.specs.{
-  FlatFile.{Stored, Appends, Cuts, FailsAs, file_refused},
-  declared.fault.StoreFault.{StoreFault, TheVariants.{Missing, Refused}},
+  FlatFile.Stored,
+  declared.fault.StoreFault.{StoreFault},
   Mboxrd.entry_of,
   FileName.mail_file,
   Maildir.{Maildir, File},
 }
 use Rattle.fetch_session.{
   specs.{declared.fault.{Fault.{Fault, TheVariants.{SeenRefused, NoMemory, BadSeen}}, Cut.Cut}, Store.{Gained, Appended, Brings}},
-  specs.Record.{bytes_in, record_state, Keeps, Steady, FileReadAs, StandsTill, TellsSize, WritesRecord, Saves, Merges, TakesBack, LineOf},
+  specs.Record.{bytes_in, record_state, Keeps, Steady, FileReadAs, StandsTill, Saves, Merges, TakesBack, LineOf},
   specs.Record.{record_state_in, ReadsRecord, IsLineFault},
   specs.Task.{Task, Done, files_in, texts_in, tasks_of, turns_of, replies_of, done_texts, stores, ids_in, marked_ids},
   specs.{Target.{Target, AsFiles, AsEntries, Stores}, Scene.{Scene, Went, AllWent, Fell, Stops, NoFile, FileNotSaved}},
@@ -90,15 +91,7 @@ pub is_there : (content : Option (List ℕ)) → bytes_in content ≢ [] → con
 is_there None some = absurd (some refl)
 is_there (Some bytes) some = refl
 
--- ---- the whole record written
-
-pub writes_merges : (old new : Stored) (was now : RecordState) (r : Result (Unit {0}) Fault) → Keeps old.content was
-    → Means (file_of now.rows now.intent) (Rows Two now.rows now.intent false) → WritesRecord old now r new → Merges old was now r new
-writes_merges _ _ _ _ (Ok _) _ stands is = rw is (refl, stands)
-writes_merges _ _ _ _ (Err SeenRefused) kept _ (inl is) = rw is (refl, inl kept)
-writes_merges _ _ _ _ (Err SeenRefused) _ stands (inr is) = rw is (refl, inr (Two, false, stands))
-writes_merges _ _ _ _ (Err NoMemory) _ _ is = is
-writes_merges _ _ _ _ (Err _) _ _ never = absurd never
+-- ---- a file that is cut
 
 -- what stands for the rows at the front of a file is cut off from the rest
 pub till_front : (stored : Stored) (size : ℕ) (rows : List Row) (bytes : List ℕ) → StandsTill stored size rows
@@ -118,22 +111,7 @@ taken_back old new size was (Err fault) till cuts =
       | inr is ↦ inr (rw is (refl, λ stood. inr (Two, false, stands)))
     ]
 
--- the size of a file, and what was appended to it
-pub not_there : (old new : Stored) (why : StoreFault) → bytes_in old.content ≢ [] → FailsAs old why new → new ≡ file_refused old
-not_there old new Missing some (none, same) = absurd (some (ap bytes_in none))
-not_there old new Refused some is = is
-not_there old new _ some never = absurd never
-
-pub same_bytes : (old new : Stored) (r : Result ℕ Fault) → TellsSize old r new → new.content ≡ old.content
-same_bytes _ _ (Ok _) is = cc
-same_bytes _ _ (Err SeenRefused) is = cc
-same_bytes _ _ (Err _) never = absurd never
-
-pub size_untold : (old new : Stored) (was now : RecordState) (fault : Fault) → TellsSize old (Err fault) new
-    → Saves old was now (Err fault) new
-size_untold old _ was _ SeenRefused is = rw is (refl, λ stood. inl (steady_keeps _ _ stood))
-size_untold _ _ _ _ _ never = absurd never
-
+-- what was appended to a file
 pub stands_till : (old new : Stored) (size : ℕ) (line : List ℕ) (rows : List Row) → bytes_in new.content ≢ []
     → size ≡ length (bytes_in old.content)
     → bytes_in new.content ≡ bytes_in old.content ++ line → Steady old.content (none_open rows) → StandsTill new size rows
@@ -153,13 +131,6 @@ saves_merges _ _ _ _ (Err NoMemory) _ is = is
 saves_merges _ _ _ _ (Err _) _ never = absurd never
 
 -- ---- a group or an intent's line appended
-
-pub not_empty : (bytes : List ℕ) (b : Bool) → b ≡ false → b ≡ (length bytes == 0) → bytes ≢ []
-not_empty _ b isnt is none = true≢false (cc)
-
-pub all_empty : (bytes : List ℕ) (b : Bool) → b ≡ true → b ≡ (length bytes == 0) → bytes ≡ []
-all_empty [] b _ _ = refl
-all_empty (_ ∷ _) b hit is = let none = sym is ∙ hit in absurd (grind (arith, nat_tests, none))
 
 -- the record becomes another by what is appended
 abbrev pub GrowsBy : List ℕ → RecordState → RecordState → Type 0
@@ -227,11 +198,6 @@ pub opens : (rows : List Row) (intent : Intent) (line : List ℕ) → IsIntent i
     → line ≡ intent_line intent → Grows rows None line rows (Some intent)
 opens _ intent _ is has line_is =
     inr (record { intent = intent; is_one = is; row = has; closed = refl; bytes_are = line_is; same = refl; opened = refl })
-
-pub saves_steady : (old new : Stored) (was now : RecordState) (r : Result (Unit {0}) Fault) → Steady old.content was
-    → Saves old was now r new → OnOk r (Steady new.content now)
-saves_steady _ _ _ _ (Ok _) stood saves = saves.1 stood
-saves_steady _ _ _ _ (Err _) _ _ = tt
 
 -- ---- why a record isn't read
 

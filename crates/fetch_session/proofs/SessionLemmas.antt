@@ -1,22 +1,19 @@
 -- How the parts of a session make the whole, also of one that changes nothing, and what of it is durable.
+use Rattle.mail_store.specs.Devices.{stored_in}
 use Rattle.std.{
   proofs.Common.{◌≡◌, ◌≢◌, ◌⊎◌, ℕ, List, [], ◌∷◌, ◌++◌, Option, None, Some, Result, Ok, Err, refl, sym, ap, subst, ◌∙◌, inl, inr, length},
-  proofs.Common.{append_assoc, ⊎_elim, Bool, false, append-nil, All, take, map, option_map},
-  proofs.lemmas.{List.{append-nil, Elements.recursion_from_All}, Grind.flat_map-append, Option.{none-some, same_Some}},
+  proofs.Common.{append_assoc, Bool, false, append-nil, All, map},
+  proofs.lemmas.{List.{append-nil, Elements.recursion_from_All}, Grind.flat_map-append, Option.{none-some}},
   specs.List.{flat_map, AllByRecursion},
 }
 use Rattle.pop3_wire.specs.{Place.{Place, at}, Link.Link}
-use Rattle.fetch_record.specs.{
-  Record.{Row, RecordState, Intent, none_open, marked_all, Loaded, merged},
-  RecordGrowth.{Grows, Updates},
-  Intents.closed_rows,
-}
+use Rattle.fetch_record.specs.{Record.{Row, RecordState, Intent, none_open, marked_all, Loaded, merged}, Intents.closed_rows}
 use Rattle.mail_store.{
-  specs.{FlatFile.{Stored, holding}, Mboxrd.entry_of, DiskCalls.{AppendsDisk, CutsDisk, DurableCutTo}},
-  specs.declared.{fault.StoreFault.StoreFault, maildir.disk.MaildirDisk.Ghosts as DiskGhosts, file.flat_file.FlatFile.Ghosts as FileGhosts},
-  specs.{Durable.{IsDurable as IsFileDurable, Trusted, MayLeave, content_in, seen_on}, Maildir.{Maildir, File, IsWithout, WereTaken}},
-  specs.Power.{IsLonger, KeepsWhole, LeavesCut, LeavesEither, LeavesLonger, LeavesNoMore, LeavesPart, LeavesAll},
-  proofs.{DiskLemmas.{durable_append, durable_cut, durable_trust}, DurableLemmas.durable_is_left},
+  specs.{FlatFile.{Stored, holding}, Mboxrd.entry_of},
+  specs.declared.{maildir.disk.MaildirDisk.Ghosts as DiskGhosts, file.flat_file.FlatFile.Ghosts as FileGhosts},
+  specs.{Durable.{IsDurable as IsFileDurable, Trusted, seen_on}, Maildir.{Maildir, File, IsWithout, WereTaken}},
+  specs.Power.{LeavesNoMore, LeavesAll},
+  proofs.{DiskLemmas.{durable_trust}, DurableLemmas.durable_is_left},
 }
 use Rattle.pop3_client.specs.{Conversation.{TurnsJoin, Talks}, Turns.quit, declared.fault.ClientFault.ClientFault}
 use Rattle.fetch_session.{
@@ -27,7 +24,7 @@ use Rattle.fetch_session.{
   specs.{Scene.{Scene, scene, Went, AllWent}, Task.{Task, Done, ids_in, marked_ids, done_texts, ids_ahead, says, tasks_planned}},
   specs.Durable.{AreLeft, AreTrusted, DurableCarried, DurableCarries, DurableCut, DoesDurably, DurableDones, IsGrownAtMost, IsRecordLeft},
   specs.Durable.{IsSafeFile, IsSafeStore, IsSafeWork, IsRecordUntouched, KeepsWork, IsCutLeft, DurableKept, Durably, LeavesBoth, ShowsRows},
-  specs.Durable.{LeavesFile, LeavesLeft, LeavesMerged, LeavesStore, DurableProceeds, DurableRows, StillDurable, DurableSession},
+  specs.Durable.{LeavesFile, LeavesMerged, LeavesStore, DurableProceeds, DurableRows, StillDurable, DurableSession},
   specs.Durable.{DurableTexts, UnlessQuiet, may_leave_in},
   specs.Target.{Target, AsFiles, AsEntries, Stores, kind_of, stores_of, target_of, AfterTakingIn, IsSoundMaildir, IsSoundMbox, in_maildir},
   specs.Target.{in_mbox, is_sound, no_maildir, with_maildir, maildir_of, mbox_of, held_flags, closed_file, none_held, closed_rows_in},
@@ -38,7 +35,7 @@ use Rattle.fetch_session.{
   specs.Pretend.{PreviewsMerged, WouldBeUnready, HoldsTheSame, IsUntouched as ChangesNothing, JudgesMbox, LooksAtMbox, LooksIn, Pretends},
   specs.Pretend.{PreviewsSession, counted_as, previews_of, preview_told},
   proofs.SceneLemmas.{is_there, not_whole, till_front, read_keeps, all_on, fell_before, fell_on, marked_on},
-  proofs.ReadyLemmas.{ahead, not_found, unread},
+  proofs.{ReadyLemmas.{ahead, not_found, unread}, RecordLemmas.{grown_rows, no_more_keeps, shown_longer, still_grown}},
 }
 use Rattle.mail_terms.specs.Listing.{Item}
 use Rattle.rc_file.specs.declared.settings.Settings.{Settings}
@@ -47,12 +44,8 @@ use Rattle.fetch_session.specs.declared.fault.Why.TheVariants as why
 
 -- ---- what a loss of power may leave of a file
 
--- what was durable still is
-pub no_more_keeps : {a b : Option (List ℕ) → Type 0} (content : Option (List ℕ)) → LeavesNoMore a b → KeepsWhole content a b
-no_more_keeps _ no_more _ _ front left may = front left (no_more _ may)
-
 -- what calls see of it is durable
-pub durable_safe : {F : Type 0} (files : FileGhosts F) (f : F) → seen_on (files.disk f) ≡ (files.stored f).content
+pub durable_safe : {F : Type 0} (files : FileGhosts F) (f : F) → seen_on (files.disk f) ≡ (stored_in files f).content
     → IsFileDurable (files.disk f) → IsSafeFile files f
 durable_safe files f shown is = (
   durable_trust _ is,
@@ -64,107 +57,16 @@ durable_safe files f shown is = (
 
 -- there is no file
 pub missing_safe : {F : Type 0} (file : FileGhosts F) (f f' : F) → file.disk f' ≡ file.disk f
-    → ((file.stored f).content ≡ None) × (file.stored f' ≡ file.stored f) → Trusted (file.disk f).now → IsSafeFile file f'
-missing_safe _ f _ same (none, as_was) trust = (rw same trust, λ bytes is. absurd (none-some bytes (cc)))
-
--- bytes are appended to a safe file: what is left of them stands behind what it had; after Ok it is safe again
-pub leaves_part : {F T : Type 0} (file : FileGhosts F) (f f' : F) (bytes : List ℕ) (r : Result T StoreFault)
-    → seen_on (file.disk f) ≡ (file.stored f).content → AppendsDisk (file.disk f) bytes r (file.disk f') → IsSafeFile file f
-    → LeavesPart (file.stored f).content bytes (MayLeave (file.disk f'))
-leaves_part file f f' bytes r shown appends safe was has = (durable_append _ _ _ r appends).leaves (safe.1 was has).0 was (cc)
-
-pub grown_safe : {F T : Type 0} (file : FileGhosts F) (f f' : F) (bytes : List ℕ) (done : T)
-    → seen_on (file.disk f) ≡ (file.stored f).content
-    → seen_on (file.disk f') ≡ (file.stored f').content → AppendsDisk (file.disk f) bytes (Ok done) (file.disk f')
-    → IsSafeFile file f → IsSafeFile file f'
-grown_safe file f f' bytes done shown shown' (b, c, at, is, e) safe = durable_safe file f' shown'
-    ((durable_append (file.disk f) (file.disk f') bytes (Ok done) (b, c, at, is, e)).durable
-    (safe.1 b.content (sym shown ∙ ap (option_map content_in) at)).0)
-
-pub no_more_left : {F : Type 0} (file : FileGhosts F) (f f' : F) → (file.stored f').content ≡ (file.stored f).content
-    → LeavesNoMore (MayLeave (file.disk f)) (MayLeave (file.disk f'))
-    → (Is : Option (List ℕ) → Type 0) → LeavesFile file f Is → LeavesFile file f' Is
-no_more_left file f f' same no_more Is leaves bytes is left may = leaves bytes (sym same ∙ is) left (no_more left may)
-
--- no rows are left but these, and those that they were to be made
-pub grown_rows : (rows others next : List Row) (before after : Option Intent) (left : Option (List ℕ)) → (next ≡ rows) ⊎ (next ≡ others)
-    → IsGrownAtMost (record_state rows before) (record_state next after) left → AreLeft rows others left
-grown_rows rows _ next before after _ next_is g = elim g.grows [
-  | inr grows ↦ record {
-    before = before;
-    added = g.added;
-    next = next;
-    after = after;
-    grows = grows;
-    next_is = next_is;
-    file = g.file;
-  }
-  | inl none ↦ record {
-    before = before;
-    added = [];
-    next = rows;
-    after = before;
-    grows = inl (inl (refl, refl, refl));
-    next_is = inl refl;
-    file = record {
-      bytes = g.file.bytes;
-      behind = [];
-      is = cc;
-      stands = g.file.stands;
-      part = tt;
-      begun = inl refl;
-    };
-  }
-]
+    → (stored_in file f).content ≡ None → Trusted (file.disk f).now → IsSafeFile file f'
+missing_safe _ f _ same none trust = (rw same trust, λ bytes is. absurd (none-some bytes (sym none ∙ sym (ap seen_on same) ∙ is)))
 
 -- ---- what it may leave of the record's file
 
 module _ {F : Type 0} (file : FileGhosts F) (f : F) where
-  -- the file is safe, so just its bytes
-  pub safe_left : (was : RecordState) (added : List ℕ) → IsSafeFile file f → Steady (file.stored f).content was
-      → LeavesFile file f (IsRecordLeft was added)
-  safe_left was _ safe stood bytes is left may = record {
-    bytes = bytes;
-    behind = [];
-    is = cc ((safe.1 bytes is).1 left may, append-nil bytes);
-    stands = rw is at stood;
-    part = tt;
-    begun = inl refl;
-  }
-
-  -- bytes were appended, or a part of them
-  pub part_left : (old : Stored) (was : RecordState) (added : List ℕ) → bytes_in old.content ≢ []
-      → Steady old.content was → LeavesPart old.content added (MayLeave (file.disk f))
-      → (left : Option (List ℕ)) → MayLeave (file.disk f) left → IsRecordLeft was added left
-  part_left old was added some stood part left may =
-      let behind = part (bytes_in old.content) (is_there old.content some) left may in
-      record { bytes = bytes_in old.content; behind = behind.0; is = behind.1; stands = stood; part = behind.2; begun = inr some }
-
-  -- bytes of the record
-  pub still_grown : (was now : RecordState) (bytes : List ℕ) (left : Option (List ℕ)) → Steady (Some bytes) was
-      → left ≡ Some bytes → IsGrownAtMost was now left
-  still_grown _ _ bytes _ stands all = record {
-    added = [];
-    file = record {
-      bytes = bytes;
-      behind = [];
-      is = cc (append-nil bytes);
-      stands = stands;
-      part = tt;
-      begun = inl refl;
-    };
-    grows = inl refl;
-  }
-
   -- the file is safe and stands for the record
-  pub same_grown : (was now : RecordState) → IsSafeFile file f → Steady (file.stored f).content was
+  pub same_grown : (was now : RecordState) → IsSafeFile file f → Steady (stored_in file f).content was
       → LeavesFile file f (IsGrownAtMost was now)
   same_grown was now safe stood bytes is left may = still_grown _ _ _ _ (rw is at stood) ((safe.1 bytes is).1 left may)
-
-  -- what makes it another was appended, or a part of it
-  pub part_grown : (was now : RecordState) (added : List ℕ) → Grows was.rows was.intent added now.rows now.intent
-      → LeavesFile file f (IsRecordLeft was added) → LeavesFile file f (IsGrownAtMost was now)
-  part_grown _ _ added grows leaves bytes is left may = record { added = added; file = leaves _ is left may; grows = inr grows }
 
   -- so no rows are left but these, and those that they were to be made
   pub grown_left : (rows others next : List Row) (before after : Option Intent) → (next ≡ rows) ⊎ (next ≡ others)
@@ -173,7 +75,7 @@ module _ {F : Type 0} (file : FileGhosts F) (f : F) where
 
   -- the file is safe and stands for the rows
   pub same_left : {rows others : List Row} {intent : Option Intent} → IsSafeFile file f
-      → Steady (file.stored f).content (record_state rows intent) → LeavesFile file f (AreLeft rows others)
+      → Steady (stored_in file f).content (record_state rows intent) → LeavesFile file f (AreLeft rows others)
   same_left {rows} {others} {intent} safe stood = grown_left rows others rows intent intent (inl refl)
       (same_grown (record_state rows intent) (record_state rows intent) safe stood)
 
@@ -237,71 +139,12 @@ module _ {D F : Type 0} {file : FileGhosts F} {safe : Type 0} {target : Target} 
 
 -- the record's file is safe and stands for the rows, so they are durable
 pub rows_last : {F : Type 0} (file : FileGhosts F) (f : F) (rows : List Row) → IsSafeFile file f
-    → Steady (file.stored f).content (none_open rows) → DurableRows file f rows
+    → Steady (stored_in file f).content (none_open rows) → DurableRows file f rows
 rows_last file f rows safe steady = by _ refl steady
   where
-    by : (content : Option (List ℕ)) → (file.stored f).content ≡ content → Steady content (none_open rows) → DurableRows file f rows
+    by : (content : Option (List ℕ)) → (stored_in file f).content ≡ content → Steady content (none_open rows) → DurableRows file f rows
     by None _ stands _ _ = ([], [], inl refl, stands)
     by (Some bytes) is stands left may = (bytes, [], inr (cc ((safe.1 bytes is).1 left may, append-nil bytes)), stands)
-
--- what begins with bytes that stand for these rows still does if it is longer
-shown_longer : (rows : List Row) (was left : Option (List ℕ)) → ShowsRows rows was → IsLonger was left → ShowsRows rows left
-shown_longer rows _ _ shows (inl same) = rw same shows
-shown_longer _ _ _ (bytes, behind, inl none, stands) (inr _) = (bytes, behind, inl none, stands)
-shown_longer _ _ _ (bytes, behind, inr is, stands) (inr (some, more, was_is, longer)) = (
-  bytes,
-  behind ++ more,
-  inr (cc (same_Some some (bytes ++ behind) (sym was_is ∙ is), append_assoc bytes behind more)),
-  stands,
-)
-
-pub longer_rows : {F : Type 0} (file : FileGhosts F) (f f' : F)
-    → LeavesLonger (MayLeave (file.disk f)) (MayLeave (file.disk f')) → (rows : List Row) → StillDurable file rows f f'
-longer_rows file f f' longer rows last left may = let was = longer left may in shown_longer rows was.0 left (last was.0 was.1) was.2
-
--- the file was cut to bytes that stand for the rows, or may have been
-module _ {F T : Type 0} (file : FileGhosts F) (f f' : F) (rows : List Row) (size : ℕ)
-    (till : StandsTill (file.stored f) size rows) (r : Result T StoreFault)
-    (shown : seen_on (file.disk f) ≡ (file.stored f).content) (cuts : CutsDisk (file.disk f) size r (file.disk f')) where
-  law : DurableCutTo (file.disk f) size r (file.disk f')
-  law = durable_cut _ _ _ r cuts
-
-  stands : Steady (Some (take size till.0.0)) (none_open rows)
-  stands = till_front (file.stored f) size rows till.0.0 till till.0.1
-
-  pub front_rows : StillDurable file rows f f'
-  front_rows last left may = elim (law.front till.0.0 (shown ∙ till.0.1) left may) [
-    | inl before ↦ last left before
-    | inr (behind, is) ↦ (take size till.0.0, behind, inr is, stands)
-  ]
-
--- what holds of each that could be left before, and of bytes that stand for the rows, holds after the file was cut to such
-pub cut_back : {F : Type 0} (file : FileGhosts F) (f f' : F) (rows : List Row) (size : ℕ) → StandsTill (file.stored f) size rows
-    → LeavesCut (file.stored f).content size (MayLeave (file.disk f)) (MayLeave (file.disk f')) → (now : RecordState)
-    → LeavesFile file f (IsGrownAtMost (none_open rows) now) → LeavesFile file f' (IsGrownAtMost (none_open rows) now)
-cut_back file f f' rows size till cuts now leaves bytes is left may = elim (cuts left may) [
-  | inl before ↦ leaves till.0.0 till.0.1 left before
-  | inr (was, has, all) ↦ still_grown file f (none_open rows) now (take size was) left
-      (till_front (file.stored f) size rows was till has) all
-]
-
--- ---- a record that is merged
-
-module _ {F : Type 0} (files : FileGhosts F) (from f : F) (was : RecordState) (rows : List Row) where
-  -- it was written whole
-  pub written_merged : (bytes : List ℕ) → Steady (Some bytes) (none_open rows)
-      → LeavesEither (MayLeave (files.disk from)) bytes (MayLeave (files.disk f))
-      → LeavesMerged (MayLeave (files.disk from)) was rows (MayLeave (files.disk f))
-  written_merged bytes stands either left may = ⊎_elim inl
-      (λ all. inr (inr (still_grown files f (none_open rows) (none_open rows) bytes left stands all))) (either left may)
-
-  -- a group was appended
-  pub grown_merged : (group : List ℕ) → Updates was.rows was.intent group rows None → LeavesLeft files was group from f
-      → LeavesMerged (MayLeave (files.disk from)) was rows (MayLeave (files.disk f))
-  grown_merged group updates leaves left may = elim (leaves left may) [
-    | inl before ↦ inl before
-    | inr is ↦ inr (inl (record { added = group; file = is; grows = inr (inl updates) }))
-  ]
 
 -- the mboxrd file of a store
 same_mbox : {D F : Type 0} (disk : DiskGhosts D) (file : FileGhosts F) (store : Store D F)
@@ -345,23 +188,23 @@ untouched _ f = record { no_more = λ _ may. may; same = refl }
 
 -- the state of a session at this place
 abbrev pub scene_at : {D F H Z : Type 0} → DiskGhosts D → FileGhosts F → Place → Work D F H Z → Scene
-scene_at disk file place work = scene place (stores_of disk file work.store) (file.stored work.ledger.file)
+scene_at disk file place work = scene place (stores_of disk file work.store) (stored_in file work.ledger.file)
     work.ledger.seen.rows work.ledger.lines.items
 
 -- nothing was stored or marked
 pub none_left_of : {F : Type 0} (file : FileGhosts F) (mbox f : F) (next : Task) (place : Place) (rows : List Row)
     (lines : List ReportLine) (cut : Cut) (new : Scene)
-    → IsSafeFile file f → Steady (file.stored f).content (none_open rows) → IsSafeFile file mbox
-    → LeavesBoth file (file.stored mbox).content mbox f
-    (IsCutLeft next (scene place (in_mbox (file.stored mbox)) (file.stored f) rows lines) cut new)
+    → IsSafeFile file f → Steady (stored_in file f).content (none_open rows) → IsSafeFile file mbox
+    → LeavesBoth file (stored_in file mbox).content mbox f
+    (IsCutLeft next (scene place (in_mbox (stored_in file mbox)) (stored_in file f) rows lines) cut new)
 none_left_of file mbox f next place rows lines cut new safe steady whole trust bytes has left may now is seen there =
     inl (same_grown file f (none_open rows) (none_open rows) safe steady now is seen there, (whole.1 bytes has).1 left may)
 
 pub nothing_cut : {D F : Type 0} (disk : DiskGhosts D) (file : FileGhosts F) (target : Target) (task : Task) (a : Place)
     (rows : List Row) (lines : List ReportLine) (cut : Cut) (new : Scene) (was store : Store D F) (f : F)
     → IsSafeStore file was → LeavesNoMore (may_leave_in file was) (may_leave_in file store) → IsSafeFile file f
-    → Steady (file.stored f).content (none_open rows)
-    → DurableCut file target task (scene a (stores_of disk file was) (file.stored f) rows lines) cut new store f
+    → Steady (stored_in file f).content (none_open rows)
+    → DurableCut file target task (scene a (stores_of disk file was) (stored_in file f) rows lines) cut new store f
 nothing_cut disk file (AsFiles account) task a rows lines cut new was store f whole no_more safe steady = inl (same_left file f safe steady)
 nothing_cut disk file AsEntries task a rows lines cut new was (InMaildir device) f whole no_more safe steady = tt
 nothing_cut disk file AsEntries task a rows lines cut new was (InMbox device) f whole no_more safe steady =
@@ -373,7 +216,7 @@ nothing_cut disk file AsEntries task a rows lines cut new was (InMbox device) f 
 -- what was safe and written down before still is
 pub none_durable : {D F H Z : Type 0} (disk : DiskGhosts D) (file : FileGhosts F) (target : Target) (place : Place)
     (old new : Work D F H Z) (next : List (List ℕ))
-    → IsSafeWork file old → KeepsWork file old new → Steady (file.stored old.ledger.file).content (none_open old.ledger.seen.rows)
+    → IsSafeWork file old → KeepsWork file old new → Steady (stored_in file old.ledger.file).content (none_open old.ledger.seen.rows)
     → LeavesFile file new.ledger.file (AreLeft old.ledger.seen.rows (marked_all old.ledger.seen.rows next))
     → DurableDones file target [] next (scene_at disk file place old) new.store new.ledger.file
 none_durable disk file target place old new next safe keeps steady left = record {
@@ -446,8 +289,8 @@ pub entries_session : {D F : Type 0} (disk : DiskGhosts D) (file : FileGhosts F)
     × Did AsEntries (in_mbox (mbox_of file store)) (in_mbox (mbox_of file store'))
 entries_session disk file (InMbox device) (InMbox device') digits Did A B C kind met sound =
     let m = met sound in
-    let none = subst (λ (maildir : Maildir). Did AsEntries (with_maildir (in_mbox (file.stored device)) maildir)
-    (in_mbox (file.stored device'))) (nothing_left m.4.0 m.4.1) m.4.2 in
+    let none = subst (λ (maildir : Maildir). Did AsEntries (with_maildir (in_mbox (stored_in file device)) maildir)
+    (in_mbox (stored_in file device'))) (nothing_left m.4.0 m.4.1) m.4.2 in
     (m.0, m.1, m.2, m.3, none)
 entries_session disk file (InMaildir device) (InMbox device') digits Did A B C kind met sound = absurd cc
 entries_session disk file store (InMaildir device') digits Did A B C kind met never = absurd never

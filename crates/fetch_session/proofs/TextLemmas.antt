@@ -8,10 +8,10 @@ use Rattle.std.{
 use Rattle.mail_store.specs.{
   Maildir.{AllNamed, File, IsNamed, Maildir, MayBeNamed, draft, dropped, with_file},
   FileName.{sized, sized_file, stem_of},
-  FlatFile.{Stored, holding, Measures},
+  FlatFile.{Stored, TellsEdges, holding},
   Mboxrd.entry_of,
   declared.{fault.{StoreFault.StoreFault, EntryFault.TheVariants.Nothing}, file.flat_file.Edges.Edges},
-  MboxCalls.{RefusesLook, ChecksMbox, AppendsEntry},
+  MboxCalls.{RefusesLook, SeesEntry, TellsMbox},
 }
 use Rattle.pop3_client.specs.{
   declared.fault.ClientFault.ClientFault,
@@ -28,7 +28,7 @@ use Rattle.fetch_session.{
   specs.Scene.{EntryNotSaved, NoEntry, scene, Stops, TakesTask},
   specs.Target.{Target, AsFiles, Stores, in_maildir, AsEntries, closed_file, in_mbox, is_stored, none_held},
   specs.Mbox.{AppendsText, AsksMbox, TakesText, IsSettledAtMost, IsStoreFault, IsTakenBack, MarksEntry, RefusesEntry, SettlesIntent},
-  specs.Mbox.intent_of,
+  specs.Mbox.{LeavesSame, intent_of},
   proofs.SceneLemmas.brings_same,
 }
 use Rattle.pop3_wire.specs.{Bodies.Rest, Place.Place, Body.{lf_line, text_of, unstuffed}}
@@ -217,7 +217,7 @@ settles_either None _ old _ _ (whole, same) =
 settles_either (Some _) _ _ _ _ (was, some, whole, now) = inr (was, some, whole, now)
 
 pub asks_ok : (intent : Option Intent) (old mid new : Stored) (stored : Bool) (items : List Item) (found : Found)
-    → SettlesIntent intent items old (Ok stored) mid → ChecksMbox {T = Unit {0}} mid (Ok tt) new → found.stored ≡ stored
+    → SettlesIntent intent items old (Ok stored) mid → TellsMbox {T = Unit {0}} mid.content (Ok tt) × (new ≡ mid) → found.stored ≡ stored
     → found.held.items ≡ none_held items → found.odd.items ≡ none_held items → AsksMbox intent old items (Ok found) new
 asks_ok intent old mid new stored items found settles ((bytes, goes_on), same) stored_is flags odd =
     elim (settles_either intent items old mid stored settles) [
@@ -243,14 +243,16 @@ failures_kept (Some _) _ _ _ _ is = cc
 
 -- the file was refused
 pub asks_refused : (intent : Option Intent) (old mid new : Stored) (stored : Bool) (items : List Item)
-    (why : StoreFault) (fault : Fault) → SettlesIntent intent items old (Ok stored) mid → RefusesLook mid why new → IsStoreFault why fault
+    (why : StoreFault) (fault : Fault) → SettlesIntent intent items old (Ok stored) mid → RefusesLook mid.content why × LeavesSame
+    {T = Unit {0}} mid (Err why) new
+    → IsStoreFault why fault
     → AsksMbox intent old items (Err fault) new
 asks_refused intent old mid new stored items refused.Missing fault settles (none, same) is =
     rw is (elim (settles_either intent items old mid stored settles) [
       | inl (missing, is) ↦ (missing, same ∙ is)
       | inr (was, some, whole, now) ↦ none_some mid.content (closed_file intent items was) none (same_content now)
     ])
-asks_refused intent old mid new stored items refused.Refused fault settles same is =
+asks_refused intent old mid new stored items refused.Refused fault settles (_, same) is =
     rw is (
       rw (same, failures_kept intent items old mid stored settles),
       at_most intent items old mid new stored settles (same_content same),
@@ -263,41 +265,37 @@ asks_refused intent old mid new stored items refused.NotMbox fault settles ((byt
           (was, some, λ goes_on. other (rw closed at goes_on), same ∙ now)
           )
     ])
-asks_refused intent old mid new stored items refused.NoMemory fault settles never is = absurd never
+asks_refused intent old mid new stored items refused.NoMemory fault settles never is = absurd never.0
 
 -- ---- a text that is appended
 
 -- the file was refused before the intent was saved
 pub not_measured : (mbox mbox' file : Stored) (rows : List Row) (uid text : List ℕ) (why : StoreFault) (fault : Fault)
-    → Measures mbox (Err why) mbox' → IsStoreFault why fault → RefusesEntry mbox file rows uid text fault mbox' file
+    → TellsEdges mbox.content (Err why) × LeavesSame {T = Unit {0}} mbox (Err why) mbox' → IsStoreFault why fault → RefusesEntry mbox file
+    rows uid text fault mbox' file
 not_measured _ _ _ _ _ _ refused.Missing _ is fault_is = rw fault_is (is.0, is.1, refl)
-not_measured _ _ _ _ _ _ refused.Refused _ is fault_is = rw fault_is (inl (is, inl refl))
-not_measured _ _ _ _ _ _ _ _ never _ = absurd never
+not_measured _ _ _ _ _ _ refused.Refused _ is fault_is = rw fault_is (inl (is.1, inl refl))
+not_measured _ _ _ _ _ _ _ _ never _ = absurd never.0
 
--- the intent's line was refused, or memory ran out for it
-pub not_intended : (mbox mid file file' : Stored) (rows : List Row) (uid text : List ℕ) (edges : Edges) (len : ℕ)
-    (fault : Fault) → Measures mbox (Ok edges) mid → len ≡ length (entry_of text)
-    → Saves file (none_open rows) (with_open rows (intent_at uid edges.size len)) (Err fault) file'
-    → RefusesEntry mbox file rows uid text fault mid file'
-not_intended _ _ _ _ _ _ _ _ _ SeenRefused ((was, some, edges_are), same) len_is saves =
-    (same, (was, some, rw (edges_are, len_is) at saves))
-not_intended _ _ _ _ _ _ _ _ _ NoMemory ((_, _, _), same) _ saves = (same, inl saves)
-not_intended _ _ _ _ _ _ _ _ _ _ _ _ never = absurd never
+-- the entry of a text was refused, and nothing of it is there
+abbrev pub Refuses : Stored → List ℕ → StoreFault → Stored → Type 0
+Refuses old text why new = SeesEntry {T = Unit {0}} old.content text (Err (Nothing why)) new.content
+    × LeavesSame {T = Unit {0}} old (Err why) new
 
 -- it was refused, none of it is there, and its intent was closed
 pub entry_refused : (mbox mid mbox' file file' : Stored) (rows : List Row) (uid text : List ℕ) (edges : Edges)
-    (why : StoreFault) (fault : Fault) → Measures mbox (Ok edges) mid
-    → IsTakenBack mbox file rows uid text file' → AppendsEntry {T = Unit {0}} mid text (Err (Nothing why)) mbox'
+    (why : StoreFault) (fault : Fault) → TellsEdges mbox.content (Ok edges) × (mid ≡ mbox)
+    → IsTakenBack mbox file rows uid text file' → Refuses mid text why mbox'
     → IsStoreFault why fault → RefusesEntry mbox file rows uid text fault mbox' file'
 entry_refused mbox mid mbox' file file' rows uid text edges why fault measures back appends fault_is =
-    by why (subst (λ (m : Stored). AppendsEntry {T = Unit {0}} m text (Err (Nothing why)) mbox') measures.1 appends) fault_is
+    by why (subst (λ (m : Stored). Refuses m text why mbox') measures.1 appends) fault_is
   where
-    by : (w : StoreFault) → AppendsEntry {T = Unit {0}} mbox text (Err (Nothing w)) mbox' → IsStoreFault w fault
+    by : (w : StoreFault) → Refuses mbox text w mbox' → IsStoreFault w fault
         → RefusesEntry mbox file rows uid text fault mbox' file'
-    by refused.Missing (none, same) f = none_some mbox.content back.0 none back.1
-    by refused.Refused same f = rw f (inl (same, inr back))
-    by refused.NotMbox (other, same) f = rw f (other, same, back)
-    by refused.NoMemory same f = rw f (same, inr back)
+    by refused.Missing (sees, same) f = none_some mbox.content back.0 sees.0 back.1
+    by refused.Refused (_, same) f = rw f (inl (same, inr back))
+    by refused.NotMbox (sees, same) f = rw f (sees.0, same, back)
+    by refused.NoMemory (_, same) f = rw f (same, inr back)
 
 -- ---- one text is taken
 
@@ -316,14 +314,6 @@ text_whole (line ∷ lines) = elim (text_whole lines) [
 pub body_whole : (body : Option (List (List ℕ))) → IsWhole (body_text body)
 body_whole None = inl refl
 body_whole (Some lines) = text_whole lines
-
--- nothing of the entry is there
-pub entry_none : (old new : Stored) (text : List ℕ) (fault : StoreFault)
-    → AppendsEntry {T = Unit {0}} old text (Err (Nothing fault)) new → new.content ≡ old.content
-entry_none _ _ _ refused.Missing is = cc
-entry_none _ _ _ refused.Refused is = cc
-entry_none _ _ _ refused.NotMbox is = cc
-entry_none _ _ _ refused.NoMemory is = cc
 
 -- the text wasn't read whole
 pub not_held : {n : ℕ} {uid : List ℕ} {a b : Place} {store : Stores} {file : Stored} {rows : List Row}

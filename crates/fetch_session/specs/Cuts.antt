@@ -67,7 +67,7 @@ IsMissing AsEntries store = store.mbox.content ≡ None
 -- an entry may not follow the mboxrd file's bytes
 abbrev pub IsUnusable : Target → Stores → Type 0
 IsUnusable (AsFiles account) store = ⊥
-IsUnusable AsEntries store = IsNoMbox store.mbox
+IsUnusable AsEntries store = IsNoMbox store.mbox.content
 
 -- how many calls of the store were refused
 abbrev pub refused_in : Target → Stores → ℕ

@@ -1,23 +1,26 @@
 -- What of a session is durable, by what the devices of its files say. What of a Maildir is durable, `SessionIn`
 -- says.
 use Rattle.std.{
-  specs.{Prelude.{◌≡◌, ◌≢◌, ◌⊎◌, ℕ, List, [], ◌∷◌, ◌++◌, length, Option, None, Some, Result, Ok, Err}, List.flat_map},
+  specs.Prelude.{◌≡◌, ◌≢◌, ◌⊎◌, ℕ, List, [], ◌∷◌, ◌++◌, length, Option, None, Some, Result, Ok, Err, OnOk, OnErr},
+  specs.List.flat_map,
   proofs.Common.{inl, inr},
 }
 use Rattle.mail_store.specs.{
+  Devices.{KnownFile, stored_in},
   declared.{maildir.disk.MaildirDisk.Ghosts as DiskGhosts, file.flat_file.FlatFile.Ghosts as FileGhosts},
-  Durable.{IsDurable as IsFileDurable, Trusted, MayLeave},
+  Durable.{Disk, IsDurable as IsFileDurable, Trusted, MayLeave, seen_on},
   FlatFile.Stored,
   Mboxrd.entry_of,
   Settling.MayBeLeft,
   Maildir.{File, IsDurableFile, Maildir},
-  Power.{KeepsWhole, IsLeftWhole, LeavesCut, LeavesNoMore, LeavesAll},
+  Power.{KeepsWhole, IsLeftWhole, LeavesCut, LeavesEither, LeavesNoMore, LeavesAll},
 }
 use Rattle.mail_terms.specs.Listing.{Item}
 use Rattle.pop3_client.specs.Texts.{body_text}
 use Rattle.pop3_wire.specs.{Link.Link, Place.Place, declared.wire.Wire.Ghosts as WireGhosts}
 use Rattle.rc_file.specs.declared.settings.Settings.{Settings}
 use Rattle.fetch_record.specs.{Record.{Row, RecordState, Intent, none_open, marked, marked_all}, RecordGrowth.Grows}
+use Rattle.fetch_record.specs.RecordFile.{file_of}
 use Rattle.fetch_session.specs.{
   declared.{account.Store.{Store, TheVariants.{Maildir as InMaildir, Mboxrd as InMbox}}, fault.{Cut.Cut, Fault.Fault}},
   declared.{readiness.Ready.Ready, report.{Report.Report, ReportLine.ReportLine, Skips.Skips}, work.Work.Work},
@@ -25,7 +28,7 @@ use Rattle.fetch_session.specs.{
   Account.{Holding, digits_of},
   CarryingOut.{Carried, Carries, tasks_ahead},
   Readiness.{IsFileKept, IsMergedAtMost, Readies, merged_in},
-  Record.{Keeps, Steady, record_state, with_open},
+  Record.{Keeps, Merges, Saves, Steady, TakesBack, record_state, stored_of, with_open},
   Scene.{EntryNotSaved, NoEntry, Scene, Does, WhereAllSound},
   Session.{Keeping, Noted, Proceeds, SessionIn, keeping},
   Target.{Target, AsFiles, AsEntries, AfterTakingIn, Stores, is_sound, mbox_of, stores_of, target_of},
@@ -45,9 +48,11 @@ is_trusted file (InMaildir device) = Unit {0}
 is_trusted file (InMbox device) = Trusted (file.disk device).now
 
 -- a file is durable, a loss of power leaves exactly its bytes, and no flush of it was refused
+abbrev pub IsDiskSafe : Disk → Type 0
+IsDiskSafe disk = Trusted disk.now × IsLeftWhole (seen_on disk) (IsFileDurable disk) (MayLeave disk)
+
 abbrev pub IsSafeFile : {F : Type 0} → FileGhosts F → F → Type 0
-IsSafeFile file f = Trusted (file.disk f).now
-    × IsLeftWhole (file.stored f).content (IsFileDurable (file.disk f)) (MayLeave (file.disk f))
+IsSafeFile file f = IsDiskSafe (file.disk f)
 
 -- the same for an mboxrd file
 abbrev pub IsSafeStore : {D F : Type 0} → FileGhosts F → Store D F → Type 0
@@ -78,8 +83,11 @@ ShowsRows rows left = (bytes behind : List ℕ) × ((bytes ≡ []) ⊎ (left ≡
     × Steady (Some bytes) (none_open rows)
 
 -- whatever a loss of power leaves of it does
+abbrev pub RowsLast : Disk → List Row → Type 0
+RowsLast disk rows = (left : Option (List ℕ)) → MayLeave disk left → ShowsRows rows left
+
 abbrev pub DurableRows : {F : Type 0} → FileGhosts F → F → List Row → Type 0
-DurableRows file f rows = (left : Option (List ℕ)) → MayLeave (file.disk f) left → ShowsRows rows left
+DurableRows file f rows = RowsLast (file.disk f) rows
 
 -- these rows are still durable, if they were
 abbrev pub StillDurable : {F : Type 0} → FileGhosts F → List Row → F → F → Type 0
@@ -91,9 +99,12 @@ KeepsWork file old new =
     KeepsMboxIn file old.store new.store × StillDurable file old.ledger.seen.rows old.ledger.file new.ledger.file
 
 -- this holds of whatever a loss of power leaves of a file that is there
+abbrev pub LeavesOn : Disk → (Option (List ℕ) → Type 0) → Type 0
+LeavesOn disk Is = (bytes : List ℕ) → seen_on disk ≡ Some bytes → (left : Option (List ℕ)) → MayLeave disk left
+    → Is left
+
 abbrev pub LeavesFile : {F : Type 0} → FileGhosts F → F → (Option (List ℕ) → Type 0) → Type 0
-LeavesFile file f Is = (bytes : List ℕ) → (file.stored f).content ≡ Some bytes → (left : Option (List ℕ))
-    → MayLeave (file.disk f) left → Is left
+LeavesFile file f Is = LeavesOn (file.disk f) Is
 
 -- bytes that stand for this record, and behind them what a loss of power may leave of what was appended; nothing is
 -- appended to an empty file
@@ -111,11 +122,32 @@ pub record IsGrownAtMost (was now : RecordState) (left : Option (List ℕ)) : Ty
   pub file : IsRecordLeft was added left
   pub grows : (file.behind ≡ []) ⊎ Grows was.rows was.intent added now.rows now.intent
 
--- a record's file was to grow from one record to the other: rows that were durable still are, and of a safe file one of
--- the two is left, perhaps with a part of what was appended
-abbrev pub KeepsGrowing : {F : Type 0} → FileGhosts F → RecordState → RecordState → F → F → Type 0
-KeepsGrowing file was now old new = ((rows : List Row) → StillDurable file rows old new)
-    × (IsSafeFile file old → LeavesFile file new (IsGrownAtMost was now))
+-- what calls that changed a record may leave, whatever they answered: what calls see; what was durable still is, and a
+-- safe file is safe after Ok; of one that stood for the record that is left, and perhaps a part of what was appended
+pub record DurablySaves (was now : RecordState) (old : KnownFile) (result : Result (Unit {0}) Fault) (new : KnownFile)
+    : Type 0 where
+  pub sees : Saves (stored_of old) was now result (stored_of new)
+  pub keeps : (rows : List Row) → RowsLast old.disk rows → RowsLast new.disk rows
+  pub durable : IsDiskSafe old.disk → OnOk result (IsDiskSafe new.disk)
+  pub leaves : Steady (seen_on old.disk) was → IsDiskSafe old.disk → LeavesOn new.disk (IsGrownAtMost was now)
+  pub merges : Steady (seen_on old.disk) was → IsDiskSafe old.disk → (left : Option (List ℕ)) → MayLeave new.disk left
+      → MayLeave old.disk left ⊎ IsGrownAtMost was now left
+
+-- the same once these rows were written whole: the file stands for the old record or for them, and so does what is left
+pub record DurablyWrites (rows : List Row) (old : KnownFile) (result : Result (Unit {0}) Fault) (new : KnownFile)
+    : Type 0 where
+  pub sees : (was : RecordState) → Keeps (seen_on old.disk) was
+      → Merges (stored_of old) was (none_open rows) result (stored_of new)
+  pub stands : Steady (Some (file_of rows None)) (none_open rows)
+  pub durable : OnOk result (IsDiskSafe new.disk)
+  pub leaves : LeavesEither (MayLeave old.disk) (file_of rows None) (MayLeave new.disk)
+
+-- the same once an intent was opened, and the file was then cut to the size that it had before
+pub record DurablyTakesBack (rows : List Row) (intent : Intent) (old new : KnownFile) : Type 0 where
+  pub sees : TakesBack (stored_of old) (with_open rows intent) (stored_of new)
+  pub keeps : RowsLast old.disk rows → RowsLast new.disk rows
+  pub leaves : IsDiskSafe old.disk → LeavesOn old.disk (IsGrownAtMost (none_open rows) (with_open rows intent))
+      → LeavesOn new.disk (IsGrownAtMost (none_open rows) (with_open rows intent))
 
 -- these rows are left, and what there may be of one group or intent behind them makes no others of them than those
 pub record AreLeft (rows others : List Row) (left : Option (List ℕ)) : Type 0 where
@@ -154,10 +186,25 @@ IsEntryLeft rows bytes uid text left mbox =
 
 -- this holds of each pair that a loss of power may leave of the record's file and of an mboxrd file that had these
 -- bytes, if no flush of the latter was refused
+abbrev pub LeavesBothOn : Option (List ℕ) → Disk → Disk → (List ℕ → Option (List ℕ) → Option (List ℕ) → Type 0) → Type 0
+LeavesBothOn content mbox disk Are = Trusted mbox.now → (bytes : List ℕ) → content ≡ Some bytes
+    → (left : Option (List ℕ)) → MayLeave mbox left → LeavesOn disk (λ seen. Are bytes seen left)
+
 abbrev pub LeavesBoth : {F : Type 0} → FileGhosts F → Option (List ℕ) → F → F
     → (List ℕ → Option (List ℕ) → Option (List ℕ) → Type 0) → Type 0
-LeavesBoth file content mbox f Are = Trusted (file.disk mbox).now → (bytes : List ℕ) → content ≡ Some bytes
-    → (left : Option (List ℕ)) → MayLeave (file.disk mbox) left → LeavesFile file f (λ seen. Are bytes seen left)
+LeavesBoth file content mbox f Are = LeavesBothOn content (file.disk mbox) (file.disk f) Are
+
+-- whatever calls answered that appended the entry of a text, after its intent was written: no byte of the mboxrd file
+-- is lost, and the rows stay durable; after Ok both files are safe; and this is left of them, if they were safe
+pub record DurablyEnters (rows : List Row) (uid text : List ℕ) (mbox file : KnownFile)
+    (result : Result (Unit {0}) Fault) (mbox' file' : KnownFile) : Type 0 where
+  pub keeps : KeepsWhole (seen_on mbox.disk) (MayLeave mbox.disk) (MayLeave mbox'.disk)
+  pub rows_last : RowsLast file.disk rows → RowsLast file'.disk rows
+  pub durable : Trusted mbox.disk.now → IsDiskSafe file.disk
+      → OnOk result (IsDiskSafe mbox'.disk × IsDiskSafe file'.disk)
+  pub left : IsDiskSafe file.disk → (others : List Row) → LeavesOn file'.disk (AreLeft rows others)
+  pub cut : Trusted mbox.disk.now → IsDiskSafe file.disk → IsDiskSafe mbox.disk → OnErr result
+      (LeavesBothOn (seen_on mbox.disk) mbox'.disk file'.disk (λ bytes. IsEntryLeft rows bytes uid text))
 
 -- both files are left as they were before the task that was cut; or its text was read and its entry not appended, or
 -- its mark not saved, and of the entry that is left
@@ -200,7 +247,7 @@ AreTrusted files was from = is_trusted files was × Trusted (files.disk from).no
 -- nothing was written to the record's file: a loss of power leaves no more of it than before
 pub record IsRecordUntouched {F : Type 0} (files : FileGhosts F) (from f : F) : Type 0 where
   pub no_more : LeavesNoMore (MayLeave (files.disk from)) (MayLeave (files.disk f))
-  pub same : files.stored f ≡ files.stored from
+  pub same : stored_in files f ≡ stored_in files from
 
 -- what may be left of the record's file could be left before, or it is this record, perhaps with a part of what makes
 -- it those rows, or it is those
@@ -209,20 +256,9 @@ LeavesMerged may_leave was rows may_leave' = (left : Option (List ℕ)) → may_
     → may_leave left ⊎ (IsGrownAtMost was (none_open rows) left
     ⊎ IsGrownAtMost (none_open rows) (none_open rows) left)
 
--- what may be left of the record's file could be left before, or a part of what was appended stands behind what the
--- file had
-abbrev pub LeavesLeft : {F : Type 0} → FileGhosts F → RecordState → List ℕ → F → F → Type 0
-LeavesLeft files was added from f = (left : Option (List ℕ)) → MayLeave (files.disk f) left
-    → MayLeave (files.disk from) left ⊎ IsRecordLeft was added left
-
 -- no more of an mboxrd file may be left than before
 abbrev pub LeavesStore : {D F : Type 0} → FileGhosts F → Store D F → Store D F → Type 0
 LeavesStore files was store = LeavesNoMore (may_leave_in files was) (may_leave_in files store)
-
--- the bytes that an mboxrd file had are left
-abbrev pub KeepsMboxFile : {F : Type 0} → FileGhosts F → F → F → Type 0
-KeepsMboxFile files old new =
-    KeepsWhole (files.stored old).content (MayLeave (files.disk old)) (MayLeave (files.disk new))
 
 -- once an open intent was settled in it, or while it was, this is left of it: what could be left before, or that cut
 -- back to the intent's place
@@ -245,7 +281,7 @@ abbrev pub DurableUnready : {D F : Type 0} → FileGhosts F → Store D F → F
     → Type 0
 DurableUnready files was from (inl same) store' f = LeavesNoMore (MayLeave (files.disk from)) (MayLeave (files.disk f))
     × (LeavesStore files was store' ⊎ (IsSafeFile files f × ((state : RecordState)
-    × Keeps (files.stored f).content state × LeavesSettledIn files state.intent was store')))
+    × Keeps (stored_in files f).content state × LeavesSettledIn files state.intent was store')))
 DurableUnready files was from {target} {items} {now} {store} {file} (inr merged) store' f =
     let rows = merged_in target store merged.was items now in
     ((merged.was.intent ≡ None) × LeavesMerged (MayLeave (files.disk from)) merged.was rows (MayLeave (files.disk f))
@@ -257,7 +293,7 @@ abbrev pub DurableKept : {F : Type 0} → FileGhosts F → F → (rows : List Ro
     → IsFileKept rows old new
     → F → Type 0
 DurableKept files from rows old new (inl same) f = IsRecordUntouched files from f
-DurableKept files from rows old new (inr anew) f = (files.stored f ≡ new) × IsSafeFile files f
+DurableKept files from rows old new (inr anew) f = (stored_in files f ≡ new) × IsSafeFile files f
 
 -- nothing is to be fetched or deleted, and this is left of the record's file; or what was found is durable, and this
 -- holds
@@ -282,8 +318,8 @@ pub record ReadiesDurably {D F : Type 0} (disk : DiskGhosts D) (files : FileGhos
     (was : Store D F) (from : F) (settings : Settings) (target : Target) (items : List Item) (now : ℕ) (old : Stores)
     (result : Result Ready Fault) (after : List Row)
     (store : Store D F) (f : F) : Type 0 where
-  pub readies : Readies settings target items now old (files.stored from) result after (stores_of disk files store)
-      (files.stored f)
+  pub readies : Readies settings target items now old (stored_in files from) result after (stores_of disk files store)
+      (stored_in files f)
   pub durable : safe → DurableReady files was from _ _ _ _ _ _ _ _ _ _ readies store f
 
 -- what was planned was done, or as much as went well: if no flush was refused before, nothing was to be fetched or
@@ -350,6 +386,7 @@ RunsSession link disk files now old wire report new wire' =
     WhereAllSound link.sound link.leads_to (is_sound disk files) files.sound wire wire' old.store new.store
     old.file new.file
     (AfterTakingIn (stores_of disk files old.store) (λ left. (session : SessionIn old.settings
-    (target_of old.store (digits_of old.settings)) now (link.history wire) (keeping left (files.stored old.file)) report
-    (link.history wire') (keeping (stores_of disk files new.store) (files.stored new.file)))
+    (target_of old.store (digits_of old.settings)) now (link.history wire)
+    (keeping left (stored_in files old.file)) report
+    (link.history wire') (keeping (stores_of disk files new.store) (stored_in files new.file)))
     × DurableSession files old.store old.file session new.store new.file))

@@ -5,6 +5,7 @@ use Rattle.mail_store.specs.declared.{
   file.flat_file.FlatFile.Ghosts as FileGhosts,
   maildir.disk.MaildirDisk.Ghosts as DiskGhosts,
 }
+use Rattle.mail_store.specs.Devices.{stored_in}
 use Rattle.pop3_wire.specs.{declared.wire.Wire.Ghosts as WireGhosts, Link.Link, Place.{Place, at}}
 use Rattle.rc_file.specs.declared.settings.Settings.{Settings}
 use Rattle.fetch_record.specs.Record.{Row, RecordState}
@@ -44,7 +45,7 @@ abbrev pub AreMerged : {D F : Type 0} → DiskGhosts D → FileGhosts F → Sett
     → Store D F → F → List Item → List Row → List Step → Type 0
 AreMerged disk files settings account now store file store' file' items rows plan =
     is_sound disk files store' → files.sound file' → AfterTakingIn (stores_of disk files store) (λ left.
-    (was : RecordState) × Keeps (files.stored file).content was
+    (was : RecordState) × Keeps (stored_in files file).content was
     × (rows ≡ merged_in (target_of store account) left was items now)
     × (plan ≡ planned settings (odd_in (target_of store account) left) rows items now))
 

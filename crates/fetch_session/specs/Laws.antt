@@ -5,6 +5,7 @@ use Rattle.std.specs.{
 }
 use Rattle.fetch_record.specs.Record.{RecordState, Row, is_delivered, marked_all, none_open}
 use Rattle.mail_store.specs.{
+  Devices.stored_in,
   FlatFile.Stored,
   FileName.IsAccountText,
   Held.HasDurable,
@@ -74,8 +75,8 @@ MaildirSessions {W} {D} {F} link disk files = (now : ℕ) (old new : Holding D F
     old.file new.file
     (AfterTaking (maildir_of disk old.store)
     (λ left. Session old.settings (digits_of old.settings) now (link.history wire)
-    (account_files left (files.stored old.file)) report (link.history wire')
-    (account_files (maildir_of disk new.store) (files.stored new.file))))
+    (account_files left (stored_in files old.file)) report (link.history wire')
+    (account_files (maildir_of disk new.store) (stored_in files new.file))))
 
 -- a session of an account with an mboxrd file, and what of its files is durable
 abbrev pub MboxSessions : {W D F : Type 0} → WireGhosts W → DiskGhosts D → FileGhosts F → Type 0
@@ -85,8 +86,8 @@ MboxSessions {W} {D} {F} link disk files = (now : ℕ) (old new : Holding D F) (
     → WhereAllSound link.sound link.leads_to (IsSoundMbox files) files.sound wire wire' old.store new.store
     old.file new.file
     ((session : MboxSession old.settings now (link.history wire)
-    (mbox_account_files (mbox_of files old.store) (files.stored old.file)) report
-    (link.history wire') (mbox_account_files (mbox_of files new.store) (files.stored new.file)))
+    (mbox_account_files (mbox_of files old.store) (stored_in files old.file)) report
+    (link.history wire') (mbox_account_files (mbox_of files new.store) (stored_in files new.file)))
     × DurableSession files old.store old.file session new.store new.file)
 
 -- each file that was there before a session is there after it, and others may have come; it takes none away, and the

@@ -5,6 +5,7 @@ pub mod Store
 pub mod Record
 pub mod Scene
 pub mod Durable
+pub mod Entries
 pub mod Laws
 pub mod CarryingOut
 pub mod Tail

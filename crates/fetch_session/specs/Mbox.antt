@@ -29,6 +29,11 @@ IsStoreFault refused.Refused fault = fault ≡ StoreRefused Refused
 IsStoreFault refused.NotMbox fault = fault ≡ StoreRefused NotMbox
 IsStoreFault refused.NoMemory fault = fault ≡ NoMemory
 
+-- the bytes of a file stayed, and a call of it that was refused is counted
+abbrev pub LeavesSame : {T : Type 0} → Stored → Result T StoreFault → Stored → Type 0
+LeavesSame old (Err refused.Refused) new = new ≡ file_refused old
+LeavesSame old result new = new ≡ old
+
 -- ---- before the first text
 
 -- the open intent, if there is one, was settled: whether its entry is whole; there is no file; a call was refused; or
@@ -98,9 +103,9 @@ RefusesEntry mbox file rows uid text (StoreRefused Missing) mbox' file' = (mbox.
 RefusesEntry mbox file rows uid text (StoreRefused Refused) mbox' file' =
     ((mbox' ≡ file_refused mbox) × ((file' ≡ file) ⊎ IsTakenBack mbox file rows uid text file'))
     ⊎ (IsIntended mbox file rows uid text file'
-    × ((was front rest : List ℕ) × EntryMayFollow mbox was × (entry_of text ≡ front ++ rest)
+    × ((was front rest : List ℕ) × EntryMayFollow mbox.content was × (entry_of text ≡ front ++ rest)
     × (mbox' ≡ file_refused (file_refused (holding mbox (was ++ front))))))
-RefusesEntry mbox file rows uid text (StoreRefused NotMbox) mbox' file' = IsNoMbox mbox × (mbox' ≡ mbox)
+RefusesEntry mbox file rows uid text (StoreRefused NotMbox) mbox' file' = IsNoMbox mbox.content × (mbox' ≡ mbox)
     × IsTakenBack mbox file rows uid text file'
 RefusesEntry mbox file rows uid text SeenRefused mbox' file' = (mbox' ≡ mbox)
     × ((was : List ℕ) × (mbox.content ≡ Some was)
@@ -112,7 +117,7 @@ RefusesEntry mbox file rows uid text _ mbox' file' = ⊥
 -- the entry of a text was appended to the mboxrd file, and the record has its intent; or it was refused
 abbrev pub AppendsText : Stored → Stored → Loaded → List ℕ → List ℕ → Result (Unit {0}) Fault → Stored → Stored
     → Loaded → Type 0
-AppendsText mbox file seen uid text (Ok done) mbox' file' seen' = (was : List ℕ) × EntryMayFollow mbox was
+AppendsText mbox file seen uid text (Ok done) mbox' file' seen' = (was : List ℕ) × EntryMayFollow mbox.content was
     × (mbox' ≡ holding mbox (was ++ entry_of text)) × (seen'.intent ≡ Some (intent_of was uid text))
     × Saves file (none_open seen.rows) (with_open seen.rows (intent_of was uid text)) (Ok tt) file'
 AppendsText mbox file seen uid text (Err fault) mbox' file' seen' = RefusesEntry mbox file seen.rows uid text
@@ -128,13 +133,14 @@ MarksEntry mbox file rows uid text fault file' = (was : List ℕ) × (mbox.conte
 
 -- an mboxrd file was looked at, and refused: this is the session's fault
 abbrev pub RefusesAgain : Stores → Fault → Stores → Type 0
-RefusesAgain old fault new = (why : StoreFault) × IsStoreFault why fault × RefusesLook old.mbox why new.mbox
+RefusesAgain old fault new = (why : StoreFault) × IsStoreFault why fault × (RefusesLook old.mbox.content why
+    × LeavesSame {T = Unit {0}} old.mbox (Err why) new.mbox)
 
 -- if a message was deleted, the device told the size and the ends of an mboxrd file, and an entry may follow it
 abbrev pub IsToldOfMbox : Kind → List ReportLine → Stores → Option Edges → Type 0
 IsToldOfMbox Files lines store told = Unit {0}
 IsToldOfMbox Entries lines store told = has_deletions lines ≡ true
-    → (was : List ℕ) × EntryMayFollow store.mbox was × (told ≡ Some (edges_of was))
+    → (was : List ℕ) × EntryMayFollow store.mbox.content was × (told ≡ Some (edges_of was))
 
 -- it was looked at once more; or it was refused
 abbrev pub LooksAgain : Kind → List ReportLine → Stores → Result (Option Edges) Fault → Stores → Type 0

@@ -2,6 +2,7 @@
 use Rattle.std.specs.{Prelude.{◌≡◌, ℕ, true, List, [], ◌++◌, length, None, Result, OnOk}, List.AllByRecursion}
 use Rattle.mail_terms.specs.{Listing.Item, UniqueId.IsLegalId}
 use Rattle.mail_store.specs.{
+  Devices.stored_in,
   declared.{file.flat_file.FlatFile.Ghosts as FileGhosts, maildir.disk.MaildirDisk.Ghosts as DiskGhosts},
   FileName.IsAccountText,
   Maildir.AllNamed,
@@ -22,8 +23,8 @@ use Rattle.fetch_session.specs.{
   Record.{Steady, record_state_in},
   Refusal.{RefusesTillCut, TookTillCut},
   Report.{AddsLines, HasRoom},
-  Session.{Proceeds, keeping, noted},
-  Target.{AfterTakingIn, is_sound, kind_of, stores_of, target_of, NoneBegun},
+  Session.{Keeping, Proceeds, keeping, noted},
+  Target.{AfterTakingIn, Stores, is_sound, kind_of, stores_of, target_of, NoneBegun},
   Task.{Task, skips, stores, rereads, ids_ahead, turns_ahead, AreFresh},
   Scene.{Scene, scene, WhereAllSound},
 }
@@ -33,7 +34,7 @@ use Rattle.pop3_wire.specs.{declared.wire.Wire.Ghosts as WireGhosts, Place.Place
 abbrev pub scene_of : {W D F H Z : Type 0} → WireGhosts W → DiskGhosts D → FileGhosts F → Client W
     → Work D F H Z → Scene
 scene_of link disk file client work = scene (place_of link client) (stores_of disk file work.store)
-    (file.stored work.ledger.file) work.ledger.seen.rows work.ledger.lines.items
+    (stored_in file work.ledger.file) work.ledger.seen.rows work.ledger.lines.items
 
 -- what is worked on over a Maildir, and over an mboxrd file
 abbrev pub over_maildir : {D F H Z : Type 0} → D → Ledger F H Z → Work D F H Z
@@ -42,10 +43,18 @@ over_maildir disk ledger = record { store = Maildir disk; ledger = ledger }
 abbrev pub over_mbox : {D F H Z : Type 0} → F → Ledger F H Z → Work D F H Z
 over_mbox mbox ledger = record { store = Mboxrd mbox; ledger = ledger }
 
--- no intent is open, and the record's file stands for the rows, with no torn end
+-- this store, and what calls see of this record's file
+abbrev pub keeping_in : {F : Type 0} → FileGhosts F → Stores → F → Keeping
+keeping_in file store f = keeping store (stored_in file f)
+
+-- a record's file stands for these rows, with no intent open and no torn end
+abbrev pub StandsForRows : {F : Type 0} → FileGhosts F → F → List Row → Type 0
+StandsForRows file f rows = Steady (stored_in file f).content (none_open rows)
+
+-- no intent is open, and the record's file stands for the rows
 pub record IsWritten {F : Type 0} (file : FileGhosts F) (f : F) (seen : Loaded) : Type 0 where
   pub closed : seen.intent ≡ None
-  pub steady : file.sound f → Steady (file.stored f).content (none_open seen.rows)
+  pub steady : file.sound f → StandsForRows file f seen.rows
 
 -- ready for the next task: no file is begun, and all is written down
 pub record IsReadyForNext {D F H Z : Type 0} (disk : DiskGhosts D) (file : FileGhosts F)
@@ -112,7 +121,7 @@ pub record KeepsRecord {F H Z : Type 0} (file : FileGhosts F) (uid : List ℕ) (
   pub rows : new.seen.rows ≡ old.seen.rows
   pub opened : OnOk result (IsNoneOrOf uid new.seen.intent)
   pub steady : file.sound new.file
-      → file.sound old.file × OnOk result (Steady (file.stored new.file).content (record_state_in new.seen))
+      → file.sound old.file × OnOk result (Steady (stored_in file new.file).content (record_state_in new.seen))
   pub durable : file.sound new.file → IsSafeFile file old.file → OnOk result (IsSafeFile file new.file)
       × ((others : List Row) → LeavesFile file new.file (AreLeft old.seen.rows others))
 

@@ -16,7 +16,7 @@ use Rattle.fetch_session.specs.{
   declared.fault.Fault.{Fault, TheVariants.{StoreRefused, SeenRefused, BadSeen, NoMemory}},
   declared.fault.Why.TheVariants.{Missing, Refused, NotMbox},
   declared.readiness.{Found.Found, Ready.Ready},
-  Mbox.{AsksMbox, IsSettledAtMost},
+  Mbox.{AsksMbox, IsSettledAtMost, LeavesSame},
   Record.{Keeps, Steady, Misread, FileReadAs, bytes_in},
   Target.{Kind, Files, Entries, MayBeOdd, Target, AsFiles, AsEntries, Stores, closed_file, held_flags, odd_in},
   Target.{in_maildir, none_held, closed_rows_in, stores_of, target_of},
@@ -29,7 +29,8 @@ use Rattle.mail_store.specs.{
   Mboxrd.MayGoOn,
   declared.{fault.StoreFault.StoreFault, file.flat_file.FlatFile.Ghosts as FileGhosts},
   declared.maildir.disk.MaildirDisk.Ghosts as DiskGhosts,
-  MboxCalls.ChecksMbox,
+  Devices.stored_in,
+  MboxCalls.TellsMbox,
   Held.{AreById, FoundDurable, flags_asked, odd_flags},
 }
 use Rattle.mail_store.specs.declared.fault.StoreFault.TheVariants as refused
@@ -98,8 +99,8 @@ taken_in seen found items now = merged (closed_rows found.stored seen.rows seen.
 
 -- a file was read as this record, and whether it is missing or empty is said
 pub record IsAsRead {F : Type 0} (file : FileGhosts F) (f : F) (seen : Loaded) (is_new : Bool) : Type 0 where
-  pub stands : file.sound f → FileReadAs (file.stored f).content seen
-  pub begun : file.sound f → is_new ≡ false → bytes_in (file.stored f).content ≢ []
+  pub stands : file.sound f → FileReadAs (stored_in file f).content seen
+  pub begun : file.sound f → is_new ≡ false → bytes_in (stored_in file f).content ≢ []
 
 -- what the store holds can change neither the record nor what is done: each listed id is recorded as delivered, the
 -- steps that are planned, whatever is odd, neither fetch nor delete anything, and no intent is open
@@ -134,7 +135,8 @@ ChecksBoth old (Err refused.NoMemory) new = ⊥
 -- a store was looked at: whether both folders of a Maildir are there, or whether an entry may follow an mboxrd file
 abbrev pub ChecksStore : {T : Type 0} → Kind → Stores → Result T StoreFault → Stores → Type 0
 ChecksStore Files old result new = ChecksBoth old.maildir result new.maildir × (new.mbox ≡ old.mbox)
-ChecksStore Entries old result new = ChecksMbox old.mbox result new.mbox × (new.maildir ≡ old.maildir)
+ChecksStore Entries old result new = (TellsMbox old.mbox.content result × LeavesSame old.mbox result new.mbox)
+    × (new.maildir ≡ old.maildir)
 
 -- nothing was done to a store, in which there is a place for what may come; or why there is none
 abbrev pub ChecksIdle : Kind → Stores → List Item → Result Ready Fault → Stores → Type 0

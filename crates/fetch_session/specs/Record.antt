@@ -1,14 +1,22 @@
 -- What is done to the record and its file.
-use Rattle.std.specs.Prelude.{◌≡◌, ◌≢◌, ◌⊎◌, ◌+◌, ℕ, Bool, false, List, [], Option, None, Some, Result, Ok, Err, Vec}
-use Rattle.std.specs.Prelude.{length, take}
+use Rattle.std.specs.Prelude.{◌≡◌, ◌≢◌, ◌⊎◌, ◌+◌, ℕ, Bool, false, List, [], ◌∷◌, Option, None, Some}
+use Rattle.std.specs.Prelude.{Result, Ok, Err, Vec}
+use Rattle.std.specs.Prelude.{length, take, OnOk, OnErr}
 use Rattle.fetch_record.specs.{
   Record.{Row, Intent, RecordState, Loaded, none_open},
   RecordFile.{Two, file_of},
   RecordMeaning.{Means, Rows, Fault as Faulty, FileStandsFor},
   Intents.ReadAs as BytesReadAs,
+  RecordGrowth.Grows,
   declared.seen.SeenFault.{SeenFault, TheVariants.{BadHeader, BadRow, RepeatedId, NoMemory as WantsMemory}},
 }
-use Rattle.mail_store.specs.FlatFile.{Stored, HasBytes, holding, file_refused}
+use Rattle.mail_store.specs.{
+  declared.fault.StoreFault.{StoreFault, TheVariants.Refused},
+  Devices.KnownFile,
+  DiskCalls.{AppendsDisk, CutsDisk, ReadsDisk, ReplacesDisk},
+  Durable.{Disk, seen_on},
+  FlatFile.{Stored, HasBytes, file_refused},
+}
 use Rattle.fetch_session.specs.declared.fault.Fault.{Fault, TheVariants.{SeenRefused, BadSeen, NoMemory}}
 
 -- the bytes of a file; none if it isn't there
@@ -47,13 +55,57 @@ intent_at uid start len = record { uid = uid; start = start; len = len }
 abbrev pub with_open : List Row → Intent → RecordState
 with_open rows intent = record { rows = rows; intent = Some intent }
 
--- the record was written whole; or, refused, the file is as it was or has the record; or memory ran out
-abbrev pub WritesRecord : Stored → RecordState → Result (Unit {0}) Fault → Stored → Type 0
-WritesRecord old state (Ok done) new = new ≡ holding old (file_of state.rows state.intent)
-WritesRecord old state (Err SeenRefused) new = (new ≡ file_refused old)
-    ⊎ (new ≡ file_refused (holding old (file_of state.rows state.intent)))
-WritesRecord old state (Err NoMemory) new = new ≡ old
-WritesRecord old state (Err _) new = ⊥
+-- ---- the calls of the record's file
+
+-- a call did this, and a refused one is counted; or memory ran out before it
+abbrev pub Calls : {T : Type 0} → (Disk → Result T StoreFault → Disk → Type 0) → KnownFile → Result T Fault → KnownFile
+    → Type 0
+Calls Did old (Ok told) new = Did old.disk (Ok told) new.disk × (new.refusals ≡ old.refusals)
+Calls Did old (Err SeenRefused) new = Did old.disk (Err Refused) new.disk × (new.refusals ≡ old.refusals + 1)
+Calls Did old (Err NoMemory) new = new ≡ old
+Calls Did old (Err _) new = ⊥
+
+-- these rows were written whole
+abbrev pub WritesRows : List Row → KnownFile → Result (Unit {0}) Fault → KnownFile → Type 0
+WritesRows rows old result new =
+    Calls (λ before r after. ReplacesDisk before (file_of rows None) r after) old result new
+
+-- bytes, if there are any, were appended to a file that has some
+abbrev pub GrowsDisk : List ℕ → Disk → Result (Unit {0}) StoreFault → Disk → Type 0
+GrowsDisk [] old r new = OnOk r (new ≡ old) × OnErr r ⊥
+GrowsDisk (byte ∷ more) old r new = (bytes_in (seen_on old) ≢ []) × AppendsDisk old (byte ∷ more) r new
+
+-- a record was made another by what was appended, or memory ran out for that
+abbrev pub AppendsRecord : RecordState → RecordState → KnownFile → Result (Unit {0}) Fault → KnownFile → Type 0
+AppendsRecord was now old (Err NoMemory) new = new ≡ old
+AppendsRecord was now old result new = (added : List ℕ) × Grows was.rows was.intent added now.rows now.intent
+    × Calls (GrowsDisk added) old result new
+
+-- the size of a file was told
+abbrev pub TellsSize : Option (List ℕ) → Result ℕ StoreFault → Type 0
+TellsSize content (Ok size) = size ≡ length (bytes_in content)
+TellsSize content (Err fault) = Unit {0}
+
+abbrev pub Measures : KnownFile → Result ℕ Fault → KnownFile → Type 0
+Measures old result new = Calls (ReadsDisk TellsSize) old result new
+
+-- the file was measured, and then an intent was opened in it, where none was
+abbrev pub Intends : List Row → Intent → KnownFile → Result ℕ Fault → KnownFile → Type 0
+Intends rows intent old (Ok size) new = (mid : KnownFile) × Measures old (Ok size) mid
+    × AppendsRecord (none_open rows) (with_open rows intent) mid (Ok tt) new
+Intends rows intent old (Err fault) new = Measures old (Err fault) new
+    ⊎ ((mid : KnownFile) × (size : ℕ) × Measures old (Ok size) mid
+    × AppendsRecord (none_open rows) (with_open rows intent) mid (Err fault) new)
+
+-- the file was cut to its first bytes, or that was refused
+abbrev pub CutsRecord : ℕ → KnownFile → Unit {0} → KnownFile → Type 0
+CutsRecord size old done new = Calls {T = Unit {0}} (λ before r after. CutsDisk before size r after) old (Ok tt) new
+    ⊎ Calls {T = Unit {0}} (λ before r after. CutsDisk before size r after) old (Err SeenRefused) new
+
+-- ---- what calls see then
+
+abbrev pub stored_of : KnownFile → Stored
+stored_of file = record { content = seen_on file.disk; failures = file.refusals }
 
 -- a changed record was saved; or, refused, the file stands for the old or the new one; or memory ran out, and nothing
 -- was done
@@ -69,20 +121,10 @@ abbrev pub TakesBack : Stored → RecordState → Stored → Type 0
 TakesBack old was new = Saves old was (none_open was.rows) (Ok tt) new
     ⊎ Saves old was (none_open was.rows) (Err SeenRefused) new
 
--- the size of a file that has bytes; or the call was refused
-abbrev pub TellsSize : Stored → Result ℕ Fault → Stored → Type 0
-TellsSize old (Ok size) new = (size ≡ length (bytes_in old.content)) × (new ≡ old)
-TellsSize old (Err SeenRefused) new = new ≡ file_refused old
-TellsSize old (Err _) new = ⊥
-
 -- the first bytes of a file stand for these rows, with no intent open
 abbrev pub StandsTill : Stored → ℕ → List Row → Type 0
-StandsTill stored size rows = HasBytes stored size
+StandsTill stored size rows = HasBytes stored.content size
     × Steady (Some (take size (bytes_in stored.content))) (none_open rows)
-
--- the file stands for these rows with this intent open, and up to this size for the rows alone
-abbrev pub OpensAt : Stored → ℕ → List Row → Intent → Type 0
-OpensAt stored size rows intent = Steady stored.content (with_open rows intent) × StandsTill stored size rows
 
 -- a record read from the file was merged and saved; or, refused, the file stands for the old or the
 -- new one; or memory ran out, and nothing was done

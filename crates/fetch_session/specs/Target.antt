@@ -3,6 +3,7 @@ use Rattle.std.specs.Prelude.{◌≡◌, ℕ, Bool, false, List, [], map, Option
 use Rattle.mail_terms.specs.Listing.{Item}
 use Rattle.fetch_record.specs.{Record.{Row, Intent, RecordState}, Intents.closed_rows}
 use Rattle.mail_store.specs.{
+  Devices.stored_in,
   declared.{maildir.disk.MaildirDisk.Ghosts as DiskGhosts, file.flat_file.FlatFile.Ghosts as FileGhosts},
   FileName.is_odd,
   FlatFile.Stored,
@@ -72,7 +73,7 @@ target_of store account = target (kind_of store) account
 -- what is known of it
 abbrev pub stores_of : {D F : Type 0} → DiskGhosts D → FileGhosts F → Store D F → Stores
 stores_of disk file (InMaildir device) = in_maildir (disk.maildir device)
-stores_of disk file (InMbox device) = in_mbox (file.stored device)
+stores_of disk file (InMbox device) = in_mbox (stored_in file device)
 
 -- its device's premise
 abbrev pub is_sound : {D F : Type 0} → DiskGhosts D → FileGhosts F → Store D F → Type 0
@@ -95,7 +96,7 @@ IsSoundMbox file (InMbox device) = file.sound device
 
 abbrev pub mbox_of : {D F : Type 0} → FileGhosts F → Store D F → Stored
 mbox_of file (InMaildir device) = no_mbox
-mbox_of file (InMbox device) = file.stored device
+mbox_of file (InMbox device) = stored_in file device
 
 -- each name in a Maildir is durable
 abbrev pub AreNamed : {D F : Type 0} → DiskGhosts D → FileGhosts F → Store D F → Type 0

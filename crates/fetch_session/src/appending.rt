@@ -1,20 +1,20 @@
 //! How a text is appended to an mboxrd file: it is read whole, its intent is written to the record,
 //! and then the entry is appended at once. If nothing of it came, its intent is closed again.
-ghost use Rattle.std.specs.Prelude.{◌≡◌, ◌≢◌, ℕ, List, [], ◌∷◌, None, true, OnErr, OnOk};
+ghost use Rattle.std.specs.Prelude.{◌≡◌, ◌≢◌, ℕ, List, [], ◌∷◌, true};
 ghost use Rattle.fetch_record.specs.Record.{has_row};
 ghost use Rattle.mail_terms.specs.{Text.IsWhole, UniqueId.IsLegalId};
 ghost use Rattle.pop3_client.specs.Client.{HasSameLink, link_of};
 ghost use Rattle.pop3_wire.specs.{Bodies.items_of, declared.unstuffer.Spot.TheVariants.Done};
 ghost use Rattle.fetch_session.specs.{
-  Mbox.{AppendsText, TakesText, IsStoreFault},
-  Durable.{IsEntryLeft, IsSafeFile, KeepsMboxFile, LeavesBoth, StillDurable},
+  Mbox.{TakesText, IsStoreFault},
+  Entries.WritesEntry,
   Parts.{IsWritten, KeepsRecord, RunsTasks, over_mbox},
   Refusal.RefusesTillCut,
   Report.HasRoom,
   Store.TakesOn,
   Task.stores,
 };
-ghost use Rattle.mail_store.specs.Durable.{Trusted};
+ghost use Rattle.mail_store.specs.Devices.{known_file};
 
 use crate::fault::{Cut, Fault};
 use crate::record::{intend, remember, take_back};
@@ -69,17 +69,10 @@ fn append_text<F: FlatFile, H: BuildHasher>(
     requires ready { IsWritten F.FlatFile ledger.old.file ledger.old.seen }
     ensures ledger { KeepsRecord F.FlatFile uid.now ledger.old result ledger.new }
     ensures before { F.sound mbox.new → F.sound mbox.old }
-    ensures appends { F.sound mbox.new → F.sound ledger.new.file → F.sound mbox.old × F.sound ledger.old.file
-        × AppendsText (F.stored mbox.old) (F.stored ledger.old.file) ledger.old.seen uid.now text.items result
-        (F.stored mbox.new) (F.stored ledger.new.file) ledger.new.seen }
-    ensures keeps { F.sound mbox.new → F.sound ledger.new.file
-        → KeepsMboxFile F.FlatFile mbox.old mbox.new
-        × StillDurable F.FlatFile ledger.old.seen.rows ledger.old.file ledger.new.file }
-    ensures durable { F.sound mbox.new → F.sound ledger.new.file → Trusted (F.disk mbox.old).now
-        → IsSafeFile F.FlatFile ledger.old.file
-        → OnOk result (IsSafeFile F.FlatFile mbox.new × IsSafeFile F.FlatFile ledger.new.file)
-        × (IsSafeFile F.FlatFile mbox.old → OnErr result (LeavesBoth F.FlatFile (F.stored mbox.old).content mbox.new
-        ledger.new.file (λ bytes. IsEntryLeft ledger.old.seen.rows bytes uid.now text.items))) }
+    ensures writes { F.sound mbox.new → F.sound ledger.new.file → F.sound mbox.old × F.sound ledger.old.file
+        × WritesEntry ledger.old.seen.rows uid.now text.items (known_file F.FlatFile mbox.old)
+        (known_file F.FlatFile ledger.old.file) result (known_file F.FlatFile mbox.new)
+        (known_file F.FlatFile ledger.new.file) ledger.new.seen.intent }
 {
     let edges = mbox.edges()?;
     let len = entry_len(&text);

@@ -2,16 +2,15 @@
 ghost use Rattle.std.specs.Prelude.{◌≡◌, ℕ, Bool, List, [], None, IfOk, length, map};
 ghost use Rattle.pop3_client.specs.Client.{HasSameLink, link_of, place_of};
 ghost use Rattle.rc_file.specs.Settings.{IsValid};
-ghost use Rattle.mail_store.specs.{FileName.IsAccountText, Maildir.AfterTaking, Held.AreById};
+ghost use Rattle.mail_store.specs.{Devices.stored_in, FileName.IsAccountText, Maildir.AfterTaking, Held.AreById};
 ghost use Rattle.fetch_record.specs.{Intents.closed_rows, Record.merged};
 ghost use Rattle.fetch_session.specs.{
   Account.digits_of,
-  Parts.KeepsBegun,
+  Parts.{KeepsBegun, keeping_in},
   Pretend.{JudgesMbox, LooksAtMbox, LooksIn, PreviewsWork, Pretends, PreviewsSession, previews_of, preview_told},
   Pretend.told_nothing,
   Readiness.HasFlags,
   Scene.WhereAllSound,
-  Session.keeping,
   Target.{AfterTakingIn, AsFiles, NoneBegun, in_maildir, is_sound, kind_of, Entries, Files, stores_of, target_of},
 };
 
@@ -54,7 +53,8 @@ fn judge_mbox<F: FlatFile, H: BuildHasher>(
     listing: &Listing,
 ) -> Result<bool, Fault>
     ensures { F.sound mbox.new → F.sound mbox.old
-        × JudgesMbox seen.now.intent listing.now (F.stored mbox.old) result (F.stored mbox.new) }
+        × JudgesMbox seen.now.intent listing.now (stored_in F.FlatFile mbox.old) result
+        (stored_in F.FlatFile mbox.new) }
 {
     let Some(intent) = seen.intent() else {
         peek_mbox(mbox)?;
@@ -73,7 +73,8 @@ fn look_at_mbox<F: FlatFile, H: BuildHasher>(
 ) -> Result<Found, Fault>
     ensures flags { IfOk result (HasFlags Entries listing.now) }
     ensures looks { F.sound mbox.new → F.sound mbox.old
-        × LooksAtMbox seen.now.intent (F.stored mbox.old) listing.now result (F.stored mbox.new) }
+        × LooksAtMbox seen.now.intent (stored_in F.FlatFile mbox.old) listing.now result
+        (stored_in F.FlatFile mbox.new) }
 {
     let stored = judge_mbox(alloc, mbox, seen, listing)?;
     let held = vec![in alloc; false; listing.len() as usize]?;
@@ -160,8 +161,8 @@ fn preview_work<D: MaildirDisk, F: FlatFile, H: BuildHasher>(
         × AfterTakingIn (stores_of D.MaildirDisk F.FlatFile work.old.store)
         (λ left. PreviewsWork terms.entry.settings.now
         (target_of work.old.store terms.entry.account.now) listing.now terms.entry.now
-        (keeping left (F.stored work.old.ledger.file)) result
-        (keeping (stores_of D.MaildirDisk F.FlatFile work.new.store) (F.stored work.new.ledger.file))) }
+        (keeping_in F.FlatFile left work.old.ledger.file) result
+        (keeping_in F.FlatFile (stores_of D.MaildirDisk F.FlatFile work.new.store) work.new.ledger.file)) }
 {
     let alloc = work.ledger.alloc;
     let Ledger { file, seen, .. } = &mut work.ledger;
@@ -192,8 +193,8 @@ fn preview_session<W: Wire, D: MaildirDisk, F: FlatFile, H: BuildHasher>(
         (AfterTakingIn (stores_of D.MaildirDisk F.FlatFile work.old.store)
         (λ left. PreviewsSession terms.entry.settings.now
         (target_of work.old.store terms.entry.account.now) terms.entry.now (place_of W.Wire client.old)
-        (keeping left (F.stored work.old.ledger.file)) result (place_of W.Wire client.new)
-        (keeping (stores_of D.MaildirDisk F.FlatFile work.new.store) (F.stored work.new.ledger.file))
+        (keeping_in F.FlatFile left work.old.ledger.file) result (place_of W.Wire client.new)
+        (keeping_in F.FlatFile (stores_of D.MaildirDisk F.FlatFile work.new.store) work.new.ledger.file)
         (preview_told preview.new))) }
 {
     let listing = enter(work.ledger.alloc, terms.settings, client)?;
@@ -218,8 +219,8 @@ fn pretend_over<W: Wire, D: MaildirDisk, F: FlatFile, H: BuildHasher>(
         account.old.store account.new.store account.old.file account.new.file
         (AfterTakingIn (stores_of D.MaildirDisk F.FlatFile account.old.store) (λ left. Pretends account.old.settings
         (target_of account.old.store (digits_of account.old.settings)) now (link_of W.Wire client.old)
-        (keeping left (F.stored account.old.file)) result (link_of W.Wire client.new)
-        (keeping (stores_of D.MaildirDisk F.FlatFile account.new.store) (F.stored account.new.file)))) }
+        (keeping_in F.FlatFile left account.old.file) result (link_of W.Wire client.new)
+        (keeping_in F.FlatFile (stores_of D.MaildirDisk F.FlatFile account.new.store) account.new.file))) }
 {
     let mut preview = Preview {
         outcome: Outcome::Ended,
@@ -256,8 +257,8 @@ pub fn pretend<W: Wire, D: MaildirDisk, F: FlatFile, H: BuildHasher>(
         account.old.store account.new.store account.old.file account.new.file
         (AfterTakingIn (stores_of D.MaildirDisk F.FlatFile account.old.store) (λ left. Pretends account.old.settings
         (target_of account.old.store (digits_of account.old.settings)) now (W.history wire.old)
-        (keeping left (F.stored account.old.file)) result (W.history wire.new)
-        (keeping (stores_of D.MaildirDisk F.FlatFile account.new.store) (F.stored account.new.file)))) }
+        (keeping_in F.FlatFile left account.old.file) result (W.history wire.new)
+        (keeping_in F.FlatFile (stores_of D.MaildirDisk F.FlatFile account.new.store) account.new.file))) }
 {
     let mut client = Client::new(wire);
     pretend_over(account, &mut client, now)

@@ -12,13 +12,18 @@ ghost use Rattle.fetch_session.specs.{
   Mbox.{AsksMbox, SettlesIntent},
   Durable.{AreTrusted, IsSafeFile, IsSafeStore, LeavesMerged, LeavesSettled, LeavesSettledIn, LeavesStore},
   Durable.{ReadiesDurably, is_trusted},
-  Parts.{KeepsBegun, ReadiesWork},
+  Parts.{KeepsBegun, ReadiesWork, StandsForRows},
   Target.{AfterTakingIn, AreNamed, is_sound, kind_of, stores_of, Entries, Files, target_of},
   Readiness.{ChecksStore, FindsHeld, FindsIn, HasPlan, IsAsRead, IsHeldAsIn, IsIdle, ChecksIdle, HasFlags},
   Readiness.{are_undelivered, flags_found, taken_in},
-  Record.{Gets, ReadsRecord, FileReadAs, Merges, IsLineFault, IsSecured, Steady, record_state_in},
+  Record.{Gets, ReadsRecord, FileReadAs, Merges, IsLineFault, IsSecured, record_state_in},
 };
-ghost use Rattle.mail_store.specs.{Durable.{Trusted, MayLeave}, Maildir.AfterTaking, Power.LeavesNoMore};
+ghost use Rattle.mail_store.specs.{
+  Devices.stored_in,
+  Durable.{Trusted, MayLeave},
+  Maildir.AfterTaking,
+  Power.LeavesNoMore,
+};
 
 use crate::account::Store;
 use crate::fault::Fault;
@@ -73,7 +78,7 @@ fn line_of(fault: SeenFault) -> Fault
 /// The bytes of the record's file; none if it isn't there. Nothing is flushed.
 fn load<F: FlatFile>(alloc: Global, file: &mut F) -> Result<Vec<u8>, Fault>
     ensures gets { F.sound file.new → F.sound file.old
-        × Gets (F.stored file.old) result (F.stored file.new) }
+        × Gets (stored_in F.FlatFile file.old) result (stored_in F.FlatFile file.new) }
     ensures durable { F.sound file.new → F.disk file.new ≡ F.disk file.old }
 {
     match file.peek() {
@@ -90,7 +95,7 @@ pub(crate) fn read<F: FlatFile, H: BuildHasher>(
     seen: &mut Seen<H>,
 ) -> Result<bool, Fault>
     ensures reads { F.sound file.new → F.sound file.old
-        × ReadsRecord (F.stored file.old) seen.new result (F.stored file.new) }
+        × ReadsRecord (stored_in F.FlatFile file.old) seen.new result (stored_in F.FlatFile file.new) }
     ensures durable { F.sound file.new → F.disk file.new ≡ F.disk file.old }
     ensures is_record { OnOk result (IsRecord seen.new.rows) }
 {
@@ -103,7 +108,8 @@ pub(crate) fn read<F: FlatFile, H: BuildHasher>(
 
 /// Flushes the record's file, if it is there, so that no loss of power takes back what was read.
 fn secure<F: FlatFile>(file: &mut F) -> Result<(), Fault>
-    ensures same { F.sound file.new → F.sound file.old × IsSecured (F.stored file.old) result (F.stored file.new) }
+    ensures same { F.sound file.new → F.sound file.old × IsSecured (stored_in F.FlatFile file.old) result
+        (stored_in F.FlatFile file.new) }
     ensures keeps { F.sound file.new → LeavesNoMore (MayLeave (F.disk file.old)) (MayLeave (F.disk file.new)) }
     ensures durable { F.sound file.new → Trusted (F.disk file.old).now → OnOk result (IsSafeFile F.FlatFile file.new) }
 {
@@ -166,10 +172,11 @@ fn settle<F: FlatFile, H: BuildHasher>(
     listing: &Listing,
 ) -> Result<bool, Fault>
     ensures settles { F.sound mbox.new → F.sound mbox.old
-        × SettlesIntent seen.now.intent listing.now (F.stored mbox.old) result (F.stored mbox.new) }
+        × SettlesIntent seen.now.intent listing.now (stored_in F.FlatFile mbox.old) result
+        (stored_in F.FlatFile mbox.new) }
     ensures durable { F.sound mbox.new → Trusted (F.disk mbox.old).now → OnOk result (Trusted (F.disk mbox.new).now) }
     ensures leaves { F.sound mbox.new → Trusted (F.disk mbox.old).now
-        → LeavesSettled seen.now.intent (F.stored mbox.old).content (MayLeave (F.disk mbox.old))
+        → LeavesSettled seen.now.intent (stored_in F.FlatFile mbox.old).content (MayLeave (F.disk mbox.old))
         (MayLeave (F.disk mbox.new)) }
 {
     let Some(intent) = seen.intent() else {
@@ -189,10 +196,10 @@ fn ask_mbox<F: FlatFile, H: BuildHasher>(
 ) -> Result<Found, Fault>
     ensures flags { IfOk result (HasFlags Entries listing.now) }
     ensures asks { F.sound mbox.new → F.sound mbox.old
-        × AsksMbox seen.now.intent (F.stored mbox.old) listing.now result (F.stored mbox.new) }
+        × AsksMbox seen.now.intent (stored_in F.FlatFile mbox.old) listing.now result (stored_in F.FlatFile mbox.new) }
     ensures durable { F.sound mbox.new → Trusted (F.disk mbox.old).now → OnOk result (IsSafeFile F.FlatFile mbox.new) }
     ensures leaves { F.sound mbox.new → Trusted (F.disk mbox.old).now
-        → LeavesSettled seen.now.intent (F.stored mbox.old).content (MayLeave (F.disk mbox.old))
+        → LeavesSettled seen.now.intent (stored_in F.FlatFile mbox.old).content (MayLeave (F.disk mbox.old))
         (MayLeave (F.disk mbox.new)) }
 {
     let stored = settle(alloc, mbox, seen, listing)?;
@@ -251,10 +258,10 @@ fn take_in<F: FlatFile, H: BuildHasher>(
     ensures rows { OnOk result (seen.new.rows ≡ taken_in seen.old found.now listing.now now) }
     ensures closed { OnOk result (seen.new.intent ≡ None) }
     ensures renewed { F.sound file.new → seen.old.stale ≡ true
-        → OnOk result ((F.stored file.new).content ≡ Some (file_of seen.new.rows None)) }
+        → OnOk result ((stored_in F.FlatFile file.new).content ≡ Some (file_of seen.new.rows None)) }
     ensures merges { F.sound file.new → F.sound file.old
-        × Merges (F.stored file.old) (record_state_in seen.old)
-        (none_open (taken_in seen.old found.now listing.now now)) result (F.stored file.new) }
+        × Merges (stored_in F.FlatFile file.old) (record_state_in seen.old)
+        (none_open (taken_in seen.old found.now listing.now now)) result (stored_in F.FlatFile file.new) }
     ensures durable { F.sound file.new → IsSafeFile F.FlatFile file.old
         → LeavesMerged (MayLeave (F.disk file.old)) (record_state_in seen.old)
         (taken_in seen.old found.now listing.now now) (MayLeave (F.disk file.new))
@@ -343,14 +350,14 @@ fn stay_idle<D: MaildirDisk, F: FlatFile, H: BuildHasher>(
     steps: Vec<Step>,
 ) -> Result<Ready, Fault>
     requires stands { F.sound work.old.ledger.file
-        → FileReadAs (F.stored work.old.ledger.file).content work.old.ledger.seen }
+        → FileReadAs (stored_in F.FlatFile work.old.ledger.file).content work.old.ledger.seen }
     requires idle { IsIdle terms.settings.now work.old.ledger.seen listing.now terms.now steps.items }
     ensures store { KeepsBegun D.MaildirDisk F.FlatFile work.old work.new }
     ensures steps { IfOk result (λ ready. ready.steps.items ≡ steps.items) }
     ensures length { IfOk result (λ ready. length ready.held.items ≡ length listing.now) }
     ensures seen { work.new.ledger.seen ≡ work.old.ledger.seen }
     ensures steady { F.sound work.new.ledger.file → F.sound work.old.ledger.file
-        × OnOk result (Steady (F.stored work.new.ledger.file).content (none_open work.old.ledger.seen.rows)) }
+        × OnOk result (StandsForRows F.FlatFile work.new.ledger.file work.old.ledger.seen.rows) }
     ensures readies { is_sound D.MaildirDisk F.FlatFile work.new.store → F.sound work.new.ledger.file
         → is_sound D.MaildirDisk F.FlatFile work.old.store × F.sound work.old.ledger.file
         × ReadiesDurably D.MaildirDisk F.FlatFile (Unit {0}) work.old.store work.old.ledger.file
@@ -387,7 +394,7 @@ fn prepare_by_store<D: MaildirDisk, F: FlatFile, H: BuildHasher>(
         IsHeldAsIn D.MaildirDisk F.FlatFile work.old.store terms.entry.account.now listing.now ready work.new.store
         × AreNamed D.MaildirDisk F.FlatFile work.new.store) }
     ensures steady { F.sound work.new.ledger.file → F.sound work.old.ledger.file
-        × OnOk result (Steady (F.stored work.new.ledger.file).content (none_open work.new.ledger.seen.rows)) }
+        × OnOk result (StandsForRows F.FlatFile work.new.ledger.file work.new.ledger.seen.rows) }
     ensures readies { ReadiesWork D.MaildirDisk F.FlatFile
         (is_trusted F.FlatFile work.old.store × IsSafeFile F.FlatFile work.old.ledger.file) terms.entry listing.now
         work.old result work.new }
@@ -426,7 +433,7 @@ pub fn prepare<D: MaildirDisk, F: FlatFile, H: BuildHasher>(
     ensures named { is_sound D.MaildirDisk F.FlatFile work.new.store → IfOk result (λ ready.
         All IsQuiet ready.steps.items ⊎ AreNamed D.MaildirDisk F.FlatFile work.new.store) }
     ensures steady { F.sound work.new.ledger.file → F.sound work.old.ledger.file
-        × OnOk result (Steady (F.stored work.new.ledger.file).content (none_open work.new.ledger.seen.rows)) }
+        × OnOk result (StandsForRows F.FlatFile work.new.ledger.file work.new.ledger.seen.rows) }
     ensures readies { ReadiesWork D.MaildirDisk F.FlatFile
         (AreTrusted F.FlatFile work.old.store work.old.ledger.file) terms.entry listing.now work.old result work.new }
 {

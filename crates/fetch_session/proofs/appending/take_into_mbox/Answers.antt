@@ -1,19 +1,22 @@
+use Rattle.mail_store.specs.Devices.{FileDid, known_file, stored_in}
 use Rattle.std.proofs.{
-  Common.{rules, ◌≡◌, ℕ, List, [], ◌∷◌, inl, inr, ◌++◌, Vec, Ok, Err, length, arith, sym, ap, subst, ◌∙◌, refl, true≢false},
+  Common.{rules, ◌≡◌, ℕ, List, [], ◌∷◌, inl, inr, ◌++◌, Vec, Result, Ok, Err, length, arith, sym, ap, subst, ◌∙◌, refl, true≢false},
   lemmas.Option.same_Some,
 }
-use Rattle.fetch_record.specs.Record.{marked}
+use Rattle.fetch_record.specs.Record.{marked, none_open}
 use Rattle.pop3_wire.{specs.Link.WhereSound, proofs.LinkLemmas.{and_then, in_words}}
 use Rattle.pop3_client.specs.{Client.{link_of, place_of}, Texts.Fetched, Turns.{most, retr}}
 use Rattle.fetch_session.{
   specs.{Target.AsEntries, Refusal.TookTillCut, declared.report.ReportLine.{ReportLine, TheVariants.Delivered}, Parts.KeepsLink},
-  specs.{Report.AddsLines, Task.stores, Durable.{IsEntryLeft, IsSafeFile, LeavesBoth}},
+  specs.{Report.AddsLines, Task.stores, Durable.{DurablyEnters, DurablySaves, IsEntryLeft}},
+  specs.{Entries.WritesEntry, Mbox.AppendsText, Record.{AppendsRecord, record_state_in}, declared.fault.Fault.Fault},
   proofs.{TextLemmas.{text_broken, body_whole, entry_not_saved, entry_stored, not_held, text_refused}, SessionLemmas.none_left_of},
   proofs.{TalkLemmas.{took_talked, takes_held, before_cut, err_is, did_both, did_so}, SceneLemmas.{both_sound, link_alone}},
   proofs.PartLemmas.{entered, link_broke, link_then_cut, marked_ledger, same_ledger},
-  proofs.appending.take_into_mbox.Goals.{After-len-length, After-note, After-remember, In_ok-text},
+  proofs.{EnteredLemmas.durably_enters, EntrySeen.enters_sees, RecordLemmas.durably_saves},
+  proofs.appending.take_into_mbox.Goals.{After-append_text, After-len-length, After-note, After-remember, In_ok-text},
 }
-use Rattle.mail_store.specs.{Durable.Trusted, FlatFile.Stored, Mboxrd.entry_of}
+use Rattle.mail_store.specs.{FlatFile.Stored, Mboxrd.entry_of}
 use Rattle.fetch_session.proofs.appending.take_into_mbox.Goals as goal
 
 long : (g : _) (c : After-len-length g) → c.len-length.result ≡ length c.in_ok-text.text.items
@@ -42,6 +45,48 @@ took g c = record {
   counted = c.in_ok-text.ensures.counted ∙ c.in_ok-body.ensures.counted;
   took = did_so g.W.Wire (read g c) (λ fetched. took_talked c.conversations_are_paced.ensures fetched.1);
 }
+
+-- what appending the entry leaves, and what calls see of it
+abbrev Wrote : (g : _) → After-append_text g → Result (Unit {0}) Fault → Type 0
+Wrote g c r = g.F.FlatFile.sound c.append_text.new.mbox → g.F.FlatFile.sound c.append_text.new.ledger.file
+    → g.F.FlatFile.sound c.args.mbox.now × g.F.FlatFile.sound c.args.ledger.now.file
+    × WritesEntry c.args.ledger.now.seen.rows c.args.uid.now c.in_ok-text.text.items (known_file g.F.FlatFile c.args.mbox.now)
+    (known_file g.F.FlatFile c.args.ledger.now.file) r (known_file g.F.FlatFile c.append_text.new.mbox)
+    (known_file g.F.FlatFile c.append_text.new.ledger.file) c.append_text.new.ledger.seen.intent
+
+law : (g : _) (c : After-append_text g) (r : Result (Unit {0}) Fault) → Wrote g c r → g.F.FlatFile.sound c.append_text.new.mbox
+    → g.F.FlatFile.sound c.append_text.new.ledger.file → DurablyEnters c.args.ledger.now.seen.rows c.args.uid.now
+    c.in_ok-text.text.items (known_file g.F.FlatFile c.args.mbox.now) (known_file g.F.FlatFile c.args.ledger.now.file) r
+    (known_file g.F.FlatFile c.append_text.new.mbox) (known_file g.F.FlatFile c.append_text.new.ledger.file)
+law g c r wrote m f = durably_enters c.args.ledger.now.seen.rows c.args.uid.now c.in_ok-text.text.items
+    (known_file g.F.FlatFile c.args.mbox.now) (known_file g.F.FlatFile c.args.ledger.now.file) r
+    (known_file g.F.FlatFile c.append_text.new.mbox) (known_file g.F.FlatFile c.append_text.new.ledger.file)
+    c.append_text.new.ledger.seen.intent (c.requires.ready.steady (wrote m f).1) (wrote m f).2
+
+sees : (g : _) (c : After-append_text g) (r : Result (Unit {0}) Fault) → Wrote g c r → g.F.FlatFile.sound c.append_text.new.mbox
+    → g.F.FlatFile.sound c.append_text.new.ledger.file → g.F.FlatFile.sound c.args.mbox.now × g.F.FlatFile.sound c.args.ledger.now.file
+    × AppendsText (stored_in g.F.FlatFile c.args.mbox.now) (stored_in g.F.FlatFile c.args.ledger.now.file) c.args.ledger.now.seen
+    c.args.uid.now c.in_ok-text.text.items r (stored_in g.F.FlatFile c.append_text.new.mbox)
+    (stored_in g.F.FlatFile c.append_text.new.ledger.file) c.append_text.new.ledger.seen
+sees g c r wrote m f = (
+  (wrote m f).0,
+  (wrote m f).1,
+  enters_sees c.args.uid.now c.in_ok-text.text.items
+      (known_file g.F.FlatFile c.args.mbox.now)
+      (known_file g.F.FlatFile c.args.ledger.now.file) c.args.ledger.now.seen c.append_text.new.ledger.seen r
+      (known_file g.F.FlatFile c.append_text.new.mbox) (known_file g.F.FlatFile c.append_text.new.ledger.file)
+      (c.requires.ready.steady (wrote m f).1) (wrote m f).2,
+)
+
+-- what marking the id leaves
+marked_law : (g : _) (c : After-remember g) (r : Result (Unit {0}) Fault) → FileDid g.F.FlatFile (AppendsRecord
+    (record_state_in c.append_text.new.ledger.seen) (none_open (marked c.append_text.new.ledger.seen.rows c.args.uid.now)))
+    c.append_text.new.ledger.file r c.remember.new.file → g.F.FlatFile.sound c.remember.new.file
+    → DurablySaves (record_state_in c.append_text.new.ledger.seen) (none_open (marked c.append_text.new.ledger.seen.rows c.args.uid.now))
+    (known_file g.F.FlatFile c.append_text.new.ledger.file) r (known_file g.F.FlatFile c.remember.new.file)
+marked_law g c r did f = durably_saves (record_state_in c.append_text.new.ledger.seen)
+    (none_open (marked c.append_text.new.ledger.seen.rows c.args.uid.now)) (known_file g.F.FlatFile c.append_text.new.ledger.file) r
+    (known_file g.F.FlatFile c.remember.new.file) (did f).1
 
 -- ---- where it stops
 
@@ -106,10 +151,12 @@ returns-then-not-is_whole g c =
 
 pub returns-in_err-append_text : goal.returns-in_err-append_text
 returns-in_err-append_text g c =
-    let here = (goal.at.returns-in_err-append_text g c).In_ok-text in
+    let here = goal.at.returns-in_err-append_text g c in
     let kept = c.append_text.ensures in
+    let fault = c.in_err-append_text.field-0.0 in
+    let wrote = c.in_err-append_text.ensures.writes in
     rw (err_is c.from_residual-in_err-append_text.ensures.1) (entered c.one_more_is_held.ensures c.requires.ready (record {
-      talk = link_then_cut (took g here);
+      talk = link_then_cut (took g here.In_ok-text);
       ledger = record {
         lines = subst (λ lines. AddsLines lines 1 c.append_text.new.ledger.lines) kept.ledger.lines (omega arith, omega arith);
         sound = λ f. (kept.ledger.steady f).0;
@@ -118,18 +165,20 @@ returns-in_err-append_text g c =
         left = λ f safe. (kept.ledger.durable f safe).1 (marked c.args.ledger.now.seen.rows c.args.uid.now);
       };
       before = kept.before;
-      takes = both_sound (read g here) c.in_err-append_text.ensures.appends (λ text _ refuses.
-          inr (inl (inr (inl (text_refused c.in_ok-text.text.items c.in_err-append_text.field-0.0 text refuses kept.ledger.rows
+      takes = both_sound (read g here.In_ok-text) (sees g here.After-append_text (Err fault) wrote) (λ text _ refuses.
+          inr (inl (inr (inl (text_refused c.in_ok-text.text.items fault text refuses kept.ledger.rows
           (ap (λ (v : Vec ReportLine _). v.items) kept.ledger.lines)).0))));
-      keeps = kept.keeps;
+      keeps = λ m f. let l = law g here.After-append_text (Err fault) wrote m f in (l.keeps, l.rows_last);
       durable = λ m f trust safe. (
         tt,
         λ whole w firm bytes has left may now is seen there.
-            let (e, its, text) = text_refused c.in_ok-text.text.items c.in_err-append_text.field-0.0 (read g here w).2
-            (c.in_err-append_text.ensures.appends m f).2 kept.ledger.rows (ap (λ (v : Vec ReportLine _). v.items) kept.ledger.lines) in
+            let (e, its, text) = text_refused c.in_ok-text.text.items fault (read g here.In_ok-text w).2
+            (sees g here.After-append_text (Err fault) wrote m f).2 kept.ledger.rows
+            (ap (λ (v : Vec ReportLine _). v.items) kept.ledger.lines) in
             inr (inl (
               e,
-              rw (its, text) ((c.in_err-append_text.ensures.durable m f trust safe).1 whole firm bytes has left may now is seen there),
+              rw (its, text) ((law g here.After-append_text (Err fault) wrote m f).cut trust safe whole firm bytes has left may
+                  now is seen there),
             )),
       );
     }))
@@ -138,63 +187,70 @@ pub returns : goal.returns
 returns g c =
     let here = goal.at.returns g c in
     let kept = c.append_text.ensures in
+    let wrote = c.in_ok-append_text.ensures.writes in
+    let ready = c.in_ok-append_text.ensures.ledger in
     let marks = c.in_ok-remember.ensures in
+    let marked = marked_law g here.After-remember (Ok tt) marks.appends in
     entered c.one_more_is_held.ensures c.requires.ready (record {
       talk = took g here.In_ok-text;
       ledger = marked_ledger (Ok tt) c.marked_keeps_rows.ensures kept.ledger.rows (noted g here.After-note)
-          (λ f. (kept.ledger.steady (marks.saves f).0).0) (marks.rows, record { closed = marks.closed; steady = λ f. (marks.steady f).1 })
-          (λ f safe. (c.remember.ensures.keeps f).1 (c.in_ok-append_text.ensures.ledger.durable (marks.saves f).0 safe).0);
+          (λ f. (kept.ledger.steady (marks.appends f).0).0) (
+            marks.rows,
+            record { closed = marks.closed; steady = λ f. rw marks.rows ((marked f).sees.1 (ready.steady (marks.appends f).0).1) },
+          ) (λ f safe. (marked f).leaves (ready.steady (marks.appends f).0).1 (ready.durable (marks.appends f).0 safe).0);
       before = kept.before;
-      takes = both_sound (read g here.In_ok-text) (λ m f. c.in_ok-append_text.ensures.appends m (marks.saves f).0) (λ text f appends.
-          entry_stored c.len-length.result c.in_ok-text.text.items (g.F.FlatFile.stored c.append_text.new.ledger.file)
+      takes = both_sound (read g here.In_ok-text) (λ m f. sees g here.After-append_text (Ok tt) wrote m (marks.appends f).0)
+          (λ text f appends.
+          entry_stored c.len-length.result c.in_ok-text.text.items (stored_in g.F.FlatFile c.append_text.new.ledger.file)
           c.args.ledger.now.seen c.append_text.new.ledger.seen text
-          (long g here.After-len-length) appends kept.ledger.rows marks.rows (marks.saves f).1 (told g here.After-note));
-      keeps = λ m f. let keeps = kept.keeps m (marks.saves f).0 in (keeps.0, λ last. (c.remember.ensures.keeps f).0 _ (keeps.1 last));
-      durable = λ m f trust safe. let all = (c.in_ok-append_text.ensures.durable m (marks.saves f).0 trust safe).0 in
-          ((all.0, marks.durable f all.1), λ whole w. tt);
+          (long g here.After-len-length) appends kept.ledger.rows marks.rows (marked f).sees (told g here.After-note));
+      keeps = λ m f. let l = law g here.After-append_text (Ok tt) wrote m (marks.appends f).0 in
+          (l.keeps, λ last. (marked f).keeps c.args.ledger.now.seen.rows (l.rows_last last));
+      durable = λ m f trust safe. let all = (law g here.After-append_text (Ok tt) wrote m (marks.appends f).0).durable trust safe in
+          ((all.0, (marked f).durable all.1), λ whole w. tt);
     })
 
 -- the entry is whole, and its id may be marked
-marked_left : (g : _) (c : After-remember g) → g.F.FlatFile.sound c.append_text.new.mbox
-    → g.F.FlatFile.sound c.remember.new.file → Trusted (g.F.FlatFile.disk c.args.mbox.now).now
-    → IsSafeFile g.F.FlatFile c.args.ledger.now.file
-    → LeavesBoth g.F.FlatFile (g.F.FlatFile.stored c.args.mbox.now).content c.append_text.new.mbox c.remember.new.file
-    (λ bytes. IsEntryLeft c.args.ledger.now.seen.rows bytes c.args.uid.now c.in_ok-text.text.items)
-marked_left g c m f trust safe firm bytes has left may now is seen there =
-    let before = (c.remember.ensures.saves f).0 in
-    let all = (c.in_ok-append_text.ensures.durable m before trust safe).0 in
-    let (mbox_sound, file_sound, (was, follows, holds, opened, saves)) = c.in_ok-append_text.ensures.appends m before in
-    let text = c.in_ok-text.text.items in
-    subst (λ (b : List ℕ). IsEntryLeft c.args.ledger.now.seen.rows b c.args.uid.now text seen left)
-    (same_Some was bytes (sym follows.0 ∙ has)) (inr (inr (
-      rw (c.append_text.ensures.ledger.rows, opened) at ((c.remember.ensures.keeps f).1 all.1 now is seen there),
-      (all.0.1 (was ++ entry_of text) (ap (λ (s : Stored). s.content) holds)).1 left may,
-    )))
-
 pub returns-in_err-remember : goal.returns-in_err-remember
 returns-in_err-remember g c =
     let here = goal.at.returns-in_err-remember g c in
     let kept = c.append_text.ensures in
+    let wrote = c.in_ok-append_text.ensures.writes in
+    let ready = c.in_ok-append_text.ensures.ledger in
+    let fault = c.in_err-remember.field-0.0 in
     let marks = c.in_err-remember.ensures in
+    let marked = marked_law g here.After-remember (Err fault) marks.appends in
     rw (err_is c.from_residual-in_err-remember.ensures.1) (entered c.one_more_is_held.ensures c.requires.ready (record {
       talk = link_then_cut (took g here.In_ok-text);
       ledger = marked_ledger (Err _) c.marked_keeps_rows.ensures kept.ledger.rows (noted g here.After-note)
-          (λ f. (kept.ledger.steady (marks.saves f).0).0) tt
-          (λ f safe. (c.remember.ensures.keeps f).1 (c.in_ok-append_text.ensures.ledger.durable (marks.saves f).0 safe).0);
+          (λ f. (kept.ledger.steady (marks.appends f).0).0) tt
+          (λ f safe. (marked f).leaves (ready.steady (marks.appends f).0).1 (ready.durable (marks.appends f).0 safe).0);
       before = kept.before;
-      takes = both_sound (read g here.In_ok-text) (λ m f. c.in_ok-append_text.ensures.appends m (marks.saves f).0) (λ text f appends.
+      takes = both_sound (read g here.In_ok-text) (λ m f. sees g here.After-append_text (Ok tt) wrote m (marks.appends f).0)
+          (λ text f appends.
           inr (inr (entry_not_saved c.len-length.result c.in_ok-text.text.items
-          (g.F.FlatFile.stored c.append_text.new.ledger.file) c.args.ledger.now.seen c.append_text.new.ledger.seen
-          c.in_err-remember.field-0.0 text
-          (long g here.After-len-length) appends kept.ledger.rows (marks.saves f).1 (told g here.After-note)).0));
-      keeps = λ m f. let keeps = kept.keeps m (marks.saves f).0 in (keeps.0, λ last. (c.remember.ensures.keeps f).0 _ (keeps.1 last));
+          (stored_in g.F.FlatFile c.append_text.new.ledger.file) c.args.ledger.now.seen c.append_text.new.ledger.seen
+          fault text (long g here.After-len-length) appends kept.ledger.rows (marked f).sees (told g here.After-note)).0));
+      keeps = λ m f. let l = law g here.After-append_text (Ok tt) wrote m (marks.appends f).0 in
+          (l.keeps, λ last. (marked f).keeps c.args.ledger.now.seen.rows (l.rows_last last));
       durable = λ m f trust safe. (
         tt,
         λ whole w firm bytes has left may now is seen there.
-            let (u, its, text) = entry_not_saved c.len-length.result c.in_ok-text.text.items
-            (g.F.FlatFile.stored c.append_text.new.ledger.file) c.args.ledger.now.seen c.append_text.new.ledger.seen
-            c.in_err-remember.field-0.0 (read g here.In_ok-text w).2 (long g here.After-len-length)
-            (c.in_ok-append_text.ensures.appends m (marks.saves f).0).2 kept.ledger.rows (marks.saves f).1 (told g here.After-note) in
-            inr (inr (u, rw (its, text) (marked_left g here.After-remember m f trust safe firm bytes has left may now is seen there))),
+            let before = (marks.appends f).0 in
+            let all = (law g here.After-append_text (Ok tt) wrote m before).durable trust safe in
+            let (mbox_sound, file_sound, (was, follows, holds, opened, saves)) = sees g here.After-append_text (Ok tt) wrote m before in
+            let text = c.in_ok-text.text.items in
+            let (u, its, texts) = entry_not_saved c.len-length.result text
+            (stored_in g.F.FlatFile c.append_text.new.ledger.file) c.args.ledger.now.seen c.append_text.new.ledger.seen
+            fault (read g here.In_ok-text w).2 (long g here.After-len-length)
+            (was, follows, holds, opened, saves) kept.ledger.rows (marked f).sees (told g here.After-note) in
+            inr (inr (
+              u,
+              rw (its, texts) (subst (λ (b : List ℕ). IsEntryLeft c.args.ledger.now.seen.rows b c.args.uid.now text seen left)
+                  (same_Some was bytes (sym follows.0 ∙ has)) (inr (inr (
+                    rw (kept.ledger.rows, opened) at ((marked f).leaves (ready.steady before).1 all.1 now is seen there),
+                    (all.0.1 (was ++ entry_of text) (ap (λ (s : Stored). s.content) holds)).1 left may,
+                  )))),
+            )),
       );
     }))

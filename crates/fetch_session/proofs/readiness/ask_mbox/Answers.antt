@@ -1,12 +1,14 @@
+use Rattle.mail_store.specs.{Devices.{known_file, stored_in}, Fault.is_refusal}
 use Rattle.std.proofs.{
   Common.{false, rules, sym, refl, ◌∙◌, ℕ, List, Option, None, Some},
   lemmas.{Result.err_from_is_err_and, Simd.splat_is_map},
 }
 use Rattle.fetch_record.specs.Record.{Intent}
-use Rattle.mail_store.{specs.{Durable.{Trusted, MayLeave}, Power.LeavesNoMore}, proofs.DiskLemmas.{all_trust, durable_flush}}
+use Rattle.mail_store.{specs.{Durable.{Trusted, MayLeave}, Power.LeavesNoMore}, proofs.DiskLemmas.{all_seen, all_trust, durable_flush}}
 use Rattle.fetch_session.{
   specs.Durable.LeavesSettled,
   proofs.{SessionLemmas.durable_safe, SceneLemmas.and_so, readiness.ask_mbox.Goals.After-check_mbox, TextLemmas.{asks_ok, asks_refused}},
+  proofs.{EnteredLemmas.tallied, EntrySeen.stays},
 }
 use Rattle.fetch_session.proofs.readiness.ask_mbox.Goals as goal
 
@@ -17,9 +19,15 @@ returns-in_err-check_mbox-clause-asks g c =
     let checks = c.in_err-check_mbox.ensures.checks kept in
     let settles = c.in_ok-stored.ensures.settles checks.0 in (
       settles.0,
-      asks_refused c.args.seen.now.intent (g.F.FlatFile.stored c.args.mbox.now)
-          (g.F.FlatFile.stored c.settle.new.mbox) (g.F.FlatFile.stored c.check_mbox.new.file) c.in_ok-stored.stored
-          c.args.listing.now c.in_err-check_mbox.field-0.0 p.0 settles.1 checks.1 p.2,
+      asks_refused c.args.seen.now.intent (stored_in g.F.FlatFile c.args.mbox.now)
+          (stored_in g.F.FlatFile c.settle.new.mbox) (stored_in g.F.FlatFile c.check_mbox.new.file) c.in_ok-stored.stored
+          c.args.listing.now c.in_err-check_mbox.field-0.0 p.0 settles.1 (
+            checks.1.0,
+            stays (known_file g.F.FlatFile c.settle.new.mbox) (known_file g.F.FlatFile c.check_mbox.new.file)
+                c.in_err-check_mbox.field-0.0 checks.1.1 (tallied (is_refusal c.in_err-check_mbox.field-0.0)
+                (g.F.FlatFile.refusals c.settle.new.mbox) (g.F.FlatFile.refusals c.check_mbox.new.file)
+                (g.met.F.FlatFile.below c.check_mbox.new.file kept) c.in_err-check_mbox.ensures.count),
+          ) p.2,
     ))
 
 pub returns-clause-asks : goal.returns-clause-asks
@@ -27,7 +35,13 @@ returns-clause-asks g c = λ kept.
     let checks = c.in_ok-check_mbox.ensures.checks kept in
     and_so (c.in_ok-stored.ensures.settles checks.0)
     (λ sound settles. asks_ok c.args.seen.now.intent _ _ _ c.in_ok-stored.stored c.args.listing.now
-    (record { held = c.in_ok-held.held; odd = c.in_ok-odd.odd; stored = c.in_ok-stored.stored }) settles checks.1 refl
+    (record { held = c.in_ok-held.held; odd = c.in_ok-odd.odd; stored = c.in_ok-stored.stored }) settles (
+      checks.1.0,
+      rw (
+        all_seen (g.F.FlatFile.disk c.settle.new.mbox) (g.F.FlatFile.disk c.check_mbox.new.file) checks.1.1,
+        c.in_ok-check_mbox.ensures.count,
+      ) refl,
+    ) refl
     (c.in_ok-held.ensures.items_if_clones_equal (λ y same. same)
     ∙ splat_is_map c.args.listing.now c.len.result false (sym c.len.ensures.count))
     (c.in_ok-odd.ensures.items_if_clones_equal (λ y same. same)
@@ -49,8 +63,8 @@ returns-clause-flags g c = (
 pub returns-clause-durable : goal.returns-clause-durable
 returns-clause-durable g c = λ kept trust.
     let firm = all_trust (g.F.FlatFile.disk c.settle.new.mbox) (g.F.FlatFile.disk c.check_mbox.new.file)
-    (c.in_ok-check_mbox.ensures.durable kept) (c.in_ok-stored.ensures.durable (c.in_ok-check_mbox.ensures.checks kept).0 trust) in
-    durable_safe g.F.FlatFile c.check_mbox.new.file (g.met.F.FlatFile.shown c.check_mbox.new.file) firm
+    (c.in_ok-check_mbox.ensures.checks kept).1.1 (c.in_ok-stored.ensures.durable (c.in_ok-check_mbox.ensures.checks kept).0 trust) in
+    durable_safe g.F.FlatFile c.check_mbox.new.file refl firm
 
 -- what is left after another flush could be left before it
 settled : (a b b' : Option (List ℕ) → Type 0) (intent : Option Intent) (content : Option (List ℕ)) → LeavesNoMore b b'
@@ -59,11 +73,11 @@ settled a b b' None content no_more leaves = λ left may. leaves left (no_more l
 settled a b b' (Some intent) content no_more leaves = λ left may. leaves left (no_more left may)
 
 checked : (g : _) (c : After-check_mbox g) → g.F.FlatFile.sound c.check_mbox.new.file → Trusted (g.F.FlatFile.disk c.args.mbox.now).now
-    → LeavesSettled c.args.seen.now.intent (g.F.FlatFile.stored c.args.mbox.now).content
+    → LeavesSettled c.args.seen.now.intent (stored_in g.F.FlatFile c.args.mbox.now).content
     (MayLeave (g.F.FlatFile.disk c.args.mbox.now)) (MayLeave (g.F.FlatFile.disk c.check_mbox.new.file))
-checked g c kept trust = settled _ _ _ c.args.seen.now.intent (g.F.FlatFile.stored c.args.mbox.now).content
+checked g c kept trust = settled _ _ _ c.args.seen.now.intent (stored_in g.F.FlatFile c.args.mbox.now).content
     (durable_flush (g.F.FlatFile.disk c.settle.new.mbox) (g.F.FlatFile.disk c.check_mbox.new.file) c.check_mbox.result
-    (c.check_mbox.ensures.durable kept)).no_more (c.settle.ensures.leaves (c.check_mbox.ensures.checks kept).0 trust)
+    (c.check_mbox.ensures.checks kept).1.1).no_more (c.settle.ensures.leaves (c.check_mbox.ensures.checks kept).0 trust)
 
 pub returns-in_err-check_mbox-clause-leaves : goal.returns-in_err-check_mbox-clause-leaves
 returns-in_err-check_mbox-clause-leaves g c = checked g (goal.at.returns-in_err-check_mbox-clause-leaves g c).After-check_mbox

@@ -1,3 +1,4 @@
+use Rattle.mail_store.specs.Devices.{stored_in}
 use Rattle.std.proofs.Common.{ap, inl, inr, length, refl, sym, ◌∙◌, Ok, Err}
 use Rattle.fetch_session.{
   proofs.{TalkLemmas.err_is, SceneLemmas.read_keeps},
@@ -58,7 +59,7 @@ returns-in_err-found-clause-readies g c = rw (err_is c.from_residual.ensures.1)
           safe.1,
           (
             record_state_in c.args.work.now.ledger.seen,
-            read_keeps (g.F.FlatFile.stored c.args.work.now.ledger.file).content c.args.work.now.ledger.seen (c.requires.read.stands f),
+            read_keeps (stored_in g.F.FlatFile c.args.work.now.ledger.file).content c.args.work.now.ledger.seen (c.requires.read.stands f),
             c.in_err-found.ensures.leaves d safe.0,
           ),
         ),

@@ -1,8 +1,11 @@
-use Rattle.std.proofs.Common.{◌∙◌, Err, inl, inr, refl, sym}
+use Rattle.mail_store.specs.Devices.{FileDid, known_file, stored_in}
+use Rattle.std.proofs.Common.{◌∙◌, Result, Ok, Err, inl, inr, refl, subst, sym}
+use Rattle.fetch_record.specs.Record.{RecordState}
 use Rattle.fetch_session.{
-  specs.Record.record_state_in,
-  proofs.{TalkLemmas.err_is, SceneLemmas.{read_keeps, read_steady, writes_merges}, SessionLemmas.{untouched, written_merged}},
-  proofs.ReadyLemmas.{is_anew, rested, unrenewed, unrested},
+  specs.{Record.{Merges, WritesRows, record_state_in}, Durable.DurablyWrites, declared.fault.Fault.Fault},
+  proofs.{TalkLemmas.err_is, SceneLemmas.{closed_state, read_keeps, read_steady}, SessionLemmas.untouched},
+  proofs.RecordLemmas.{durably_writes, written_is, written_merged},
+  proofs.{ReadyLemmas.{is_anew, rested, unrenewed, unrested}, readiness.stay_idle.Goals.After-save},
 }
 use Rattle.fetch_session.proofs.readiness.stay_idle.Goals as goal
 
@@ -22,7 +25,7 @@ returns-in_err-ready-clause-readies g c = rw (err_is c.from_residual.ensures.1) 
 pub returns-then-not-needs_rewrite-clause-steady : goal.returns-then-not-needs_rewrite-clause-steady
 returns-then-not-needs_rewrite-clause-steady g c = λ f. (
   f,
-  (read_steady (g.F.FlatFile.stored c.args.work.now.ledger.file).content c.args.work.now.ledger.seen
+  (read_steady (stored_in g.F.FlatFile c.args.work.now.ledger.file).content c.args.work.now.ledger.seen
       (c.requires.stands f) (sym c.needs_rewrite.ensures ∙ c.if-not-needs_rewrite.true)).0,
 )
 
@@ -30,7 +33,7 @@ pub returns-then-not-needs_rewrite-clause-readies : goal.returns-then-not-needs_
 returns-then-not-needs_rewrite-clause-readies g c = λ d f.
     let finds = c.in_ok-ready.ensures.finds d in
     let file = c.args.work.now.ledger.file in
-    let steady = read_steady (g.F.FlatFile.stored file).content c.args.work.now.ledger.seen (c.requires.stands f)
+    let steady = read_steady (stored_in g.F.FlatFile file).content c.args.work.now.ledger.seen (c.requires.stands f)
     (sym c.needs_rewrite.ensures ∙ c.if-not-needs_rewrite.true) in (
       finds.0,
       f,
@@ -43,43 +46,58 @@ returns-then-not-needs_rewrite-clause-readies g c = λ d f.
 
 -- ---- it is written anew
 
+-- what writing the record leaves of its file
+law : (g : _) (c : After-save g) (r : Result (Unit {0}) Fault) → FileDid g.F.FlatFile (WritesRows c.args.work.now.ledger.seen.rows)
+    c.args.work.now.ledger.file r c.save.new.file → g.F.FlatFile.sound c.save.new.file
+    → DurablyWrites c.args.work.now.ledger.seen.rows (known_file g.F.FlatFile c.args.work.now.ledger.file) r
+    (known_file g.F.FlatFile c.save.new.file)
+law g c r writes f = durably_writes c.args.work.now.ledger.seen.rows (known_file g.F.FlatFile c.args.work.now.ledger.file) r
+    (known_file g.F.FlatFile c.save.new.file) c.save.ensures.stands (writes f).1
+
 pub returns-in_err-save-clause-readies : goal.returns-in_err-save-clause-readies
 returns-in_err-save-clause-readies g c = rw (err_is c.from_residual-in_err-save.ensures.1) (λ d f.
     let finds = c.in_ok-ready.ensures.finds d in
-    let saves = c.in_err-save.ensures.saves f in
+    let fault = c.in_err-save.field-0.0 in
+    let did = c.in_err-save.ensures.writes f in
+    let writes = law g (goal.at.returns-in_err-save-clause-readies g c).After-save (Err fault) c.in_err-save.ensures.writes f in
     let seen = c.args.work.now.ledger.seen in
     let from = c.args.work.now.ledger.file in
-    let stood = c.requires.stands saves.0 in (
+    let stood = c.requires.stands did.0 in (
       finds.0,
-      saves.0,
+      did.0,
       unrenewed g.D.MaildirDisk g.F.FlatFile c.args.terms.account.now c.args.work.now.store c.rest.new.store from
           c.save.new.file seen c.args.steps.items
-          c.known_listings_change_nothing.ensures stood c.requires.idle c.in_ok-ready.ready c.in_err-save.field-0.0 finds.1
-          (writes_merges (g.F.FlatFile.stored from) (g.F.FlatFile.stored c.save.new.file) (record_state_in seen)
-          (record_state_in seen) (Err c.in_err-save.field-0.0) (read_keeps _ seen stood) c.save.ensures.stands saves.1)
-          (written_merged g.F.FlatFile from c.save.new.file (record_state_in seen) seen.rows _
-          (rw c.requires.idle.closed at c.save.ensures.stands) (c.save.ensures.leaves f)) (c.rest.ensures.keeps d),
+          c.known_listings_change_nothing.ensures stood c.requires.idle c.in_ok-ready.ready fault finds.1
+          (subst (λ (h : RecordState). Merges (stored_in g.F.FlatFile from) (record_state_in seen) h (Err fault)
+          (stored_in g.F.FlatFile c.save.new.file)) (closed_state seen c.requires.idle.closed)
+          (writes.sees (record_state_in seen) (read_keeps _ seen stood)))
+          (written_merged (record_state_in seen) seen.rows (known_file g.F.FlatFile from) (Err fault)
+          (known_file g.F.FlatFile c.save.new.file) writes) (c.rest.ensures.keeps d),
     ))
 
 pub returns-clause-steady : goal.returns-clause-steady
 returns-clause-steady g c = λ f.
-    let saves = c.in_ok-save.ensures.saves f in
-    (saves.0, rw (saves.1, c.requires.idle.closed) (rw c.requires.idle.closed at c.save.ensures.stands))
+    let did = c.in_ok-save.ensures.writes f in
+    let seen = c.args.work.now.ledger.seen in
+    let writes = law g (goal.at.returns-clause-steady g c).After-save (Ok tt) c.in_ok-save.ensures.writes f in
+    (did.0, (writes.sees (record_state_in seen) (read_keeps _ seen (c.requires.stands did.0))).1)
 
 pub returns-clause-readies : goal.returns-clause-readies
 returns-clause-readies g c = λ d f.
     let finds = c.in_ok-ready.ensures.finds d in
-    let saves = c.in_ok-save.ensures.saves f in
+    let did = c.in_ok-save.ensures.writes f in
+    let writes = law g (goal.at.returns-clause-readies g c).After-save (Ok tt) c.in_ok-save.ensures.writes f in
     let seen = c.args.work.now.ledger.seen in
     let from = c.args.work.now.ledger.file in
-    let stood = c.requires.stands saves.0 in
-    let anew = is_anew seen (g.F.FlatFile.stored from) (g.F.FlatFile.stored c.save.new.file) stood
-    c.requires.idle.closed (sym c.needs_rewrite.ensures ∙ c.if-not-needs_rewrite.false) saves.1 in (
+    let stood = c.requires.stands did.0 in
+    let sees = writes.sees (record_state_in seen) (read_keeps _ seen stood) in
+    let anew = is_anew seen (stored_in g.F.FlatFile from) (stored_in g.F.FlatFile c.save.new.file) stood
+    c.requires.idle.closed (sym c.needs_rewrite.ensures ∙ c.if-not-needs_rewrite.false) (written_is seen.rows
+    (known_file g.F.FlatFile from) (known_file g.F.FlatFile c.save.new.file) did.1) in (
       finds.0,
-      saves.0,
+      did.0,
       rested g.D.MaildirDisk g.F.FlatFile c.args.terms.account.now c.args.work.now.store c.rest.new.store from
           c.save.new.file seen c.args.steps.items
-          c.known_listings_change_nothing.ensures stood c.requires.idle c.in_ok-ready.ready finds.1 (inr anew)
-          (rw (saves.1, c.requires.idle.closed) (rw c.requires.idle.closed at c.save.ensures.stands)) (rw saves.1 refl)
-          (refl, c.in_ok-save.ensures.durable f) (c.rest.ensures.keeps d) c.in_ok-ready.ensures.steps c.in_ok-ready.ensures.length,
+          c.known_listings_change_nothing.ensures stood c.requires.idle c.in_ok-ready.ready finds.1 (inr anew) sees.1 sees.0
+          (refl, writes.durable) (c.rest.ensures.keeps d) c.in_ok-ready.ensures.steps c.in_ok-ready.ensures.length,
     )

@@ -1,15 +1,16 @@
-use Rattle.std.proofs.Common.{rules, List, ℕ, Ok, Err, inl, inr, arith, refl, sym, subst, ◌∙◌, string_bytes}
-use Rattle.fetch_record.specs.Record.{RecordState, none_open, marked}
+use Rattle.std.proofs.Common.{rules, List, ℕ, Result, Ok, Err, inl, inr, arith, refl, subst, ◌∙◌, string_bytes}
+use Rattle.fetch_record.specs.Record.{none_open, marked}
 use Rattle.fetch_session.{
-  specs.{Record.Saves, Store.MayGain, Target.AsFiles, Refusal.TookTillCut, Parts.KeepsLink, Report.AddsLines},
-  proofs.{SceneLemmas.{closed_state, all_sound, link_alone}, SessionLemmas.same_left},
+  specs.{Record.{AppendsRecord, record_state_in}, Durable.DurablySaves, declared.fault.Fault.Fault, Store.MayGain, Target.AsFiles},
+  specs.{Refusal.TookTillCut, Parts.KeepsLink, Report.AddsLines},
+  proofs.{SceneLemmas.{all_sound, link_alone}, SessionLemmas.same_left, RecordLemmas.durably_saves},
   proofs.TextLemmas.{named_more, stores_grows, text_broken, text_stops, text_stored, text_not_saved},
   proofs.TalkLemmas.{took_talked, takes_stopped, before_cut, err_is, did_both},
   proofs.PartLemmas.{filed, link_broke, link_idle, link_then_cut, marked_ledger, same_ledger},
-  proofs.storing.take_into_maildir.Goals.{After-note, After-store_text, In_ok-length},
+  proofs.storing.take_into_maildir.Goals.{After-note, After-remember, After-store_text, In_ok-length},
 }
 use Rattle.pop3_client.specs.{declared.fault.ClientFault.TheVariants.NoMemory, Client.link_of, Turns.{most, retr}}
-use Rattle.mail_store.specs.{Maildir.IsThere, FileName.{sized, sized_file, stem_of}}
+use Rattle.mail_store.specs.{Devices.{FileDid, known_file}, Maildir.IsThere, FileName.{sized, sized_file, stem_of}}
 use Rattle.pop3_wire.proofs.LinkLemmas.{and_then, in_words}
 use Rattle.fetch_session.proofs.storing.take_into_maildir.Goals as goal
 
@@ -90,6 +91,16 @@ returns-in_err-length g c =
       durable = λ d f safe. (tt, inl (same_left g.F.FlatFile c.args.ledger.now.file safe (c.requires.ready.written.steady f)));
     }))
 
+-- what marking the id leaves of the record's file
+marked_law : (g : _) (c : After-remember g) (r : Result (Unit {0}) Fault) → FileDid g.F.FlatFile (AppendsRecord
+    (record_state_in c.args.ledger.now.seen) (none_open (marked c.args.ledger.now.seen.rows c.args.uid.now)))
+    c.args.ledger.now.file r c.remember.new.file → (f : g.F.FlatFile.sound c.remember.new.file)
+    → DurablySaves (none_open c.args.ledger.now.seen.rows) (none_open (marked c.args.ledger.now.seen.rows c.args.uid.now))
+    (known_file g.F.FlatFile c.args.ledger.now.file) r (known_file g.F.FlatFile c.remember.new.file)
+marked_law g c r did f = durably_saves (none_open c.args.ledger.now.seen.rows)
+    (none_open (marked c.args.ledger.now.seen.rows c.args.uid.now)) (known_file g.F.FlatFile c.args.ledger.now.file) r
+    (known_file g.F.FlatFile c.remember.new.file) (rw c.requires.ready.written.closed at (did f).1)
+
 -- the text was read
 stored : (g : _) (c : In_ok-length g)
     → KeepsLink g.W.Wire (TookTillCut (most (retr c.args.number))) c.args.client.now (Ok tt) c.store_text.new.client
@@ -105,21 +116,25 @@ returns g c =
     let here = goal.at.returns g c in
     let stores = c.in_ok-length.ensures.stores in
     let marks = c.in_ok-remember.ensures in
+    let law = marked_law g here.After-remember (Ok tt) marks.appends in
+    let ready = c.requires.ready.written in
     filed c.one_more_is_held.ensures c.requires.ready.written (record {
       talk = stored g here.In_ok-length;
-      ledger = marked_ledger (Ok tt) c.marked_keeps_rows.ensures refl (noted g here.After-note) (λ f. (marks.saves f).0)
-          (marks.rows, record { closed = marks.closed; steady = λ f. (marks.steady f).1 }) (λ f. (c.remember.ensures.keeps f).1);
+      ledger = marked_ledger (Ok tt) c.marked_keeps_rows.ensures refl (noted g here.After-note) (λ f. (marks.appends f).0) (
+        marks.rows,
+        record { closed = marks.closed; steady = λ f. rw marks.rows ((law f).sees.1 (ready.steady (marks.appends f).0)) },
+      ) (λ f safe. (law f).leaves (ready.steady (marks.appends f).0) safe);
       grows = λ d. let grew = grown g here.After-store_text d in (
         grew.0,
         grew.1,
         rw (stores.1 d).1.0 (named_more (g.D.MaildirDisk.maildir c.args.disk.now).files _ (c.requires.named grew.0).0 refl),
       );
       takes = all_sound (and_then g.W.Wire g.met.W.Wire.leads_on c.in_ok-body.ensures.opens stores.2
-          (λ opened link. link c.args.number _ opened)) stores.1 marks.saves
+          (λ opened link. link c.args.number _ opened)) stores.1 (λ f. ((marks.appends f).0, (law f).sees))
           (λ link stored saved. text_stored c.in_ok-length.length stores.0 (string_bytes c.in_ok-stem.stem)
-          c.in_ok-stem.ensures.stem stored link marks.rows (rw c.requires.ready.written.closed at saved) c.note.ensures.items);
-      keeps = λ f. (c.remember.ensures.keeps f).0;
-      durable = λ d f safe. (marks.durable f safe, tt);
+          c.in_ok-stem.ensures.stem stored link marks.rows saved c.note.ensures.items);
+      keeps = λ f. (law f).keeps;
+      durable = λ d f safe. ((law f).durable safe, tt);
     })
 
 pub returns-in_err-remember : goal.returns-in_err-remember
@@ -127,19 +142,17 @@ returns-in_err-remember g c =
     let here = goal.at.returns-in_err-remember g c in
     let stores = c.in_ok-length.ensures.stores in
     let marks = c.in_err-remember.ensures in
+    let law = marked_law g here.After-remember (Err c.in_err-remember.field-0.0) marks.appends in
+    let ready = c.requires.ready.written in
     rw (err_is c.from_residual-in_err-remember.ensures.1) (filed c.one_more_is_held.ensures c.requires.ready.written (record {
       talk = link_then_cut (stored g here.In_ok-length);
-      ledger = marked_ledger (Err _) c.marked_keeps_rows.ensures refl (noted g here.After-note) (λ f. (marks.saves f).0)
-          tt (λ f. (c.remember.ensures.keeps f).1);
+      ledger = marked_ledger (Err _) c.marked_keeps_rows.ensures refl (noted g here.After-note) (λ f. (marks.appends f).0) tt
+          (λ f safe. (law f).leaves (ready.steady (marks.appends f).0) safe);
       grows = λ d. let grew = grown g here.After-store_text d in (grew.0, grew.1, tt);
       takes = all_sound (and_then g.W.Wire g.met.W.Wire.leads_on c.in_ok-body.ensures.opens stores.2
-          (λ opened link. link c.args.number _ opened)) stores.1 marks.saves
+          (λ opened link. link c.args.number _ opened)) stores.1 (λ f. ((marks.appends f).0, (law f).sees))
           (λ link stored saved. text_not_saved c.in_ok-length.length stores.0 (string_bytes c.in_ok-stem.stem)
-          c.in_err-remember.field-0.0 c.in_ok-stem.ensures.stem stored link
-          (subst (λ (h : RecordState). Saves (g.F.FlatFile.stored c.args.ledger.now.file) h
-          (none_open (marked c.args.ledger.now.seen.rows c.args.uid.now)) (Err c.in_err-remember.field-0.0)
-          (g.F.FlatFile.stored c.remember.new.file)) (sym (closed_state c.args.ledger.now.seen c.requires.ready.written.closed))
-          saved) c.note.ensures.items);
-      keeps = λ f. (c.remember.ensures.keeps f).0;
+          c.in_err-remember.field-0.0 c.in_ok-stem.ensures.stem stored link saved c.note.ensures.items);
+      keeps = λ f. (law f).keeps;
       durable = λ d f safe. (tt, inr (sized_file (string_bytes c.in_ok-stem.stem) stores.0, rw (stores.1 d).1.0 refl, (refl, refl)));
     }))
