@@ -10,10 +10,10 @@ use Rattle.std.{
 }
 use Rattle.pop3_wire.specs.{declared.wire.Wire.Ghosts as WireGhosts, World.{Message}}
 use Rattle.mail_store.specs.{
+  Devices.stored_in,
   declared.{maildir.disk.MaildirDisk.Ghosts as DiskGhosts, file.flat_file.FlatFile.Ghosts as FileGhosts},
   FileName.{IsAccountText, name_of, names_id, stem_of},
   Loss.LosesPower,
-  Durable.seen_on,
   Mboxrd.entry_of,
   Maildir.{Maildir, WereTaken},
 }
@@ -77,12 +77,13 @@ calls_leave laws link disk file mail account devices call shows account_is is =
     let met = is.made.2 is.link_sound is.store_sound is.file_sound in
     let left : Maildir = met.4.0 in
     let s = (sessions_lose_nothing laws call.settings (digits_of call.settings) call.now (link.history call.wire)
-    (account_files left (file.stored devices.file)) account.rows call.report (link.history call.wire')
-    (account_files (disk.maildir call.after.store) (file.stored call.after.file)) is.made.0 (shows.intent, shows.record_is) met.4.2.0).0 in
+    (account_files left (stored_in file devices.file)) account.rows call.report (link.history call.wire')
+    (account_files (disk.maildir call.after.store) (stored_in file call.after.file)) is.made.0 (shows.intent, shows.record_is) met.4.2.0).0
+    in
     let after : AccountMail = holds s.rows' (disk.maildir call.after.store) in
     let same = laws.kept call.settings (digits_of call.settings) call.now (link.history call.wire)
-    (account_files left (file.stored devices.file)) call.report (link.history call.wire')
-    (account_files (disk.maildir call.after.store) (file.stored call.after.file)) met.4.2.0 in
+    (account_files left (stored_in file devices.file)) call.report (link.history call.wire')
+    (account_files (disk.maildir call.after.store) (stored_in file call.after.file)) met.4.2.0 in
     let mid : AccountMail = holds account.rows left in
     let here : mid ≡ record account { maildir = left } = refl in
     record {
@@ -120,15 +121,15 @@ left_between mail state left kept taken = record {
 }
 
 -- what the record shows may be left
-record_durable : {F : Type 0} (file : FileGhosts F) (f : F) → seen_on (file.disk f) ≡ (file.stored f).content → (mail : Mail)
-    (state : State) (intent : Option Intent) → FileStandsFor (file.stored f).content state.account.rows intent
+record_durable : {F : Type 0} (file : FileGhosts F) (f : F) (mail : Mail)
+    (state : State) (intent : Option Intent) → FileStandsFor (stored_in file f).content state.account.rows intent
     → IsCrashSafe (file.disk f) mail state → RecordIsDurable mail state
-record_durable file f seen _ state intent stands safe id d =
-    (safe.left (file.stored f).content state.account.rows intent (may_seen file f seen) stands id d).1
+record_durable file f _ state intent stands safe id d =
+    (safe.left (stored_in file f).content state.account.rows intent (may_seen file f) stands id d).1
 
 pub calls_keep_promises : Below → {W D F : Type 0} (link : WireGhosts W) (disk : DiskGhosts D) (file : FileGhosts F)
-    → ((f : F) → seen_on (file.disk f) ≡ (file.stored f).content) → CallsKeepPromises link disk file
-calls_keep_promises laws {W} {D} {F} link disk file seen = keep
+    → CallsKeepPromises link disk file
+calls_keep_promises laws {W} {D} {F} link disk file = keep
   where
     own : (account : List ℕ) → IsAccountText account → (m : Message) → names_id account m.uid (name_of account m.uid (length m.text)) ≡ true
     own account text m = (bytes_eq-Decides (stem_of account m.uid) _).1 (sym (laws.stems account m.uid (length m.text) text))
@@ -156,7 +157,7 @@ calls_keep_promises laws {W} {D} {F} link disk file seen = keep
               promises = done.0;
               safe = λ trust safe.
                   let safe' = left_keeps_safe (file.disk devices.file) mail state it.left kept it.taken safe in
-                  let recorded = record_durable file devices.file (seen devices.file) mail (with_left mail state it.left)
+                  let recorded = record_durable file devices.file mail (with_left mail state it.left)
                   shows.intent shows.record_is safe' in
                   calls_keep_safe laws file devices.file call.after.file mail
                   (with_left mail state it.left) call it.sent it.after here it.session it.leaves trust recorded safe';
@@ -174,7 +175,7 @@ calls_keep_promises laws {W} {D} {F} link disk file seen = keep
       λ then between. (
         λ keeps. (
           λ safe. others_keep_safe laws file devices.file left.file mail state account then.intent kept then.record_is between keeps
-              (record_durable file devices.file (seen devices.file) mail state shows.intent shows.record_is safe) safe,
+              (record_durable file devices.file mail state shows.intent shows.record_is safe) safe,
           λ back all legal front. others_keep_order file devices.file left.file mail state account keeps back all legal front,
         ),
         keep mail (state_with mail state [] account) left later then (others_leave_kept mail state account kept between),
@@ -185,7 +186,7 @@ calls_keep_promises laws {W} {D} {F} link disk file seen = keep
       kept,
       λ safe lost.
           let loses : LosesPower state.account.maildir account.maildir = rw (shows.maildir, lost.shows.maildir) lost.maildir in
-          let now = losses_leave_kept (file.disk devices.file) mail state account (file.stored left.file).content
+          let now = losses_leave_kept (file.disk devices.file) mail state account (stored_in file left.file).content
           lost.shows.intent kept safe loses lost.record_is.is lost.shows.record_is in (
             durable_is_safe laws file left.file mail (record state { account = account }) lost.shows.intent now lost.shows.record_is
                 (all_left_durable mail.account state.account.maildir account.maildir loses) lost.record_is.durable,
@@ -216,9 +217,9 @@ mbox_calls_append laws link _ file sessions base _ account devices call shows ho
     (record { settings = call.settings; store = _; file = call.after.file }) call.wire call.wire' call.report is.made.1 is.made.2
     is.link_sound is.store_sound is.file_sound in
     let s = (mbox_sessions_lose_nothing laws call.settings call.now (link.history call.wire)
-    (mbox_account_files (file.stored devices.store) (file.stored devices.file))
+    (mbox_account_files (stored_in file devices.store) (stored_in file devices.file))
     (record { rows = account.rows; intent = account.intent }) call.report (link.history call.wire')
-    (mbox_account_files (file.stored call.after.store) (file.stored call.after.file)) is.made.0 shows.record_is met.4.0).0 in (
+    (mbox_account_files (stored_in file call.after.store) (stored_in file call.after.file)) is.made.0 shows.record_is met.4.0).0 in (
       s.sent,
       _,
       s.sent_is,
@@ -244,7 +245,7 @@ mbox_calls_keep_recorded laws {D = D} link _ file sessions base account after de
 -- if whatever may be left of both files before a call holds entries, it does after it; and the first messages of these
 -- lists have them, if they had and the server shows what is next
 mbox_calls_keep_safe : Below → {W D F : Type 0} (link : WireGhosts W) (disk : DiskGhosts D) (file : FileGhosts F)
-    → ((f : F) → seen_on (file.disk f) ≡ (file.stored f).content) → MboxSessions link disk file → (base : Base)
+    → MboxSessions link disk file → (base : Base)
     (Among : List Message → Type 0) (done done' : List Message) (account after : MboxMail) (devices : Devices F F)
     (call : Call W F F) → ShowsMbox file devices account → (holds : HoldsEntries base done account)
     → ((all : List Message) → Among all → (front : IsMboxFront base holds all)
@@ -252,7 +253,7 @@ mbox_calls_keep_safe : Below → {W D F : Type 0} (link : WireGhosts W) (disk : 
     → IsCall link disk file InMbox file.sound (IsTextOf base) devices call → ShowsMbox file call.after after
     → Holds base Among done' after → TrustsMbox file devices call.after
     → IsMboxSafe (Holds base Among) file devices → IsMboxSafe (Holds base Among) file call.after
-mbox_calls_keep_safe laws {D = D} link _ file shown sessions base Among done done' account after devices call shows holds fronts
+mbox_calls_keep_safe laws {D = D} link _ file sessions base Among done done' account after devices call shows holds fronts
     only_new is shows' kept trust safe =
     let met = sessions call.now (record { settings = call.settings; store = _; file = devices.file })
     (record { settings = call.settings; store = _; file = call.after.file }) call.wire call.wire' call.report is.made.1 is.made.2
@@ -261,7 +262,7 @@ mbox_calls_keep_safe laws {D = D} link _ file shown sessions base Among done don
     × ((all : List Message) → Among all → (front : IsMboxFront base h all)
     × ShowsNext call.settings call.maildrop (front.first ++ done) front.rest)) shows.bytes (holds, fronts) in
     let now = subst (λ (bytes : List ℕ). Holds base Among done' (record after { file = bytes })) shows'.bytes kept in
-    session_left laws D file shown base Among call (link.history call.wire) (link.history call.wire') is.made.0 is.maildrop only_new
+    session_left laws D file base Among call (link.history call.wire) (link.history call.wire') is.made.0 is.maildrop only_new
     is.served devices call.after (record_state account.rows account.intent) (record_state after.rows after.intent) done done'
     (both.0, λ all among. (both.1 all among).0) now shows.record_is shows'.record_is (λ all among. (both.1 all among).1) trust safe
     met.4.0 met.4.1
@@ -280,9 +281,9 @@ mbox_losses_leave : {F : Type 0} (file : FileGhosts F) (Holds : List Message →
     (now : MboxMail) → ShowsMbox file left now → IsMboxSafe Holds file devices → IsFileLeft file devices.store left.store
     → IsFileLeft file devices.file left.file → IsMboxSafe Holds file left × ((first : List Message) × Holds first now)
 mbox_losses_leave file Holds devices left now shows safe mbox held = (
-  λ rows intent could bytes may keeps also. rw (mbox.durable bytes also) (safe rows intent (file.stored left.file).content
-      (file.stored left.store).content held.is (rw (held.durable could may) at keeps) mbox.is),
-  let (first, holds) = safe now.rows now.intent (file.stored left.file).content (file.stored left.store).content held.is
+  λ rows intent could bytes may keeps also. rw (mbox.durable bytes also) (safe rows intent (stored_in file left.file).content
+      (stored_in file left.store).content held.is (rw (held.durable could may) at keeps) mbox.is),
+  let (first, holds) = safe now.rows now.intent (stored_in file left.file).content (stored_in file left.store).content held.is
       shows.record_is mbox.is in
       (first, subst (λ (bytes : List ℕ). Holds first (record now { file = bytes })) (sym shows.bytes) holds),
 )
@@ -310,13 +311,13 @@ stands_as base bytes account stands = elim stands [
 ]
 
 -- beside whatever a loss of power leaves of the file, what calls see of the record may be left, which shows all entries
-mbox_losses_keep : {F : Type 0} (file : FileGhosts F) → ((f : F) → seen_on (file.disk f) ≡ (file.stored f).content)
+mbox_losses_keep : {F : Type 0} (file : FileGhosts F)
     → (base : Base) (done : List Message) (account : MboxMail) (devices left : Devices F F) (now : MboxMail)
     → ShowsMbox file devices account → HoldsEntries base done account → ShowsMbox file left now
     → IsMboxSafe (HoldsEntries base) file devices → IsFileLeft file devices.store left.store → KeepsEntries base done now.file
-mbox_losses_keep file shown base done account devices left now shows holds then safe mbox =
-    let (kept, is) = safe account.rows account.intent (file.stored devices.file).content (file.stored left.store).content
-    (may_seen file devices.file (shown devices.file)) shows.record_is mbox.is in
+mbox_losses_keep file base done account devices left now shows holds then safe mbox =
+    let (kept, is) = safe account.rows account.intent (stored_in file devices.file).content (stored_in file left.store).content
+    (may_seen file devices.file) shows.record_is mbox.is in
     let (part, whole) = stands_as base (base.start ++ entries_of kept) _ is.stands in
     record {
       kept = kept;
@@ -327,8 +328,8 @@ mbox_losses_keep file shown base done account devices left now shows holds then 
     }
 
 pub mbox_calls_keep_promises : Below → {W D F : Type 0} (link : WireGhosts W) (disk : DiskGhosts D) (file : FileGhosts F)
-    → ((f : F) → seen_on (file.disk f) ≡ (file.stored f).content) → MboxSessions link disk file → MboxCallsKeepPromises link disk file
-mbox_calls_keep_promises laws link disk file shown sessions = keep
+    → MboxSessions link disk file → MboxCallsKeepPromises link disk file
+mbox_calls_keep_promises laws link disk file sessions = keep
   where
     keep : MboxCallsKeepPromises link disk file
     keep _ _ _ _ [] shows holds = (shows, holds)
@@ -344,7 +345,7 @@ mbox_calls_keep_promises laws link disk file shown sessions = keep
             shows',
             one,
             λ trust safe rows intent left bytes may keeps also.
-                let (first, there) = mbox_calls_keep_safe laws link disk file shown sessions base (λ _. ⊥) done (done ++ one.more)
+                let (first, there) = mbox_calls_keep_safe laws link disk file sessions base (λ _. ⊥) done (done ++ one.more)
                 account after devices call shows holds (λ _ never. absurd never) only_new is shows'
                 (one.kept, λ _ never. absurd never) trust (λ rows intent left bytes may keeps also.
                 let (first, there) = safe rows intent left bytes may keeps also in (first, (there, λ _ never. absurd never)))
@@ -364,7 +365,7 @@ mbox_calls_keep_promises laws link disk file shown sessions = keep
           let then = lost.shows in
           let (safe', (first, there)) =
           mbox_losses_leave file (HoldsEntries base) devices left now then safe lost.mbox_is lost.record_is in (
-            mbox_losses_keep file shown base done account devices left now shows holds then safe lost.mbox_is,
+            mbox_losses_keep file base done account devices left now shows holds then safe lost.mbox_is,
             safe',
             (first, keep base first now left later then there),
           ),
@@ -406,14 +407,14 @@ same_front (m ∷ ms) (n ∷ ns) rest more e distinct same =
     ]
 
 -- in order: what calls see of the record may be left beside whatever is left of the file, and it shows which are first
-mbox_losses_keep_order : {F : Type 0} (file : FileGhosts F) → ((f : F) → seen_on (file.disk f) ≡ (file.stored f).content)
+mbox_losses_keep_order : {F : Type 0} (file : FileGhosts F)
     → (world : World Base) (done : List Message) (account : MboxMail) (devices left : Devices F F) (now : MboxMail)
     → IsMaildrop (IsTextOf world.start) world.all → ShowsMbox file devices account → HoldsAMboxPrefix world done account
     → ShowsMbox file left now → IsMboxSafe (HoldsAMboxPrefix world) file devices → IsFileLeft file devices.store left.store
     → BeginsWithEntries world.start done now.file
-mbox_losses_keep_order file shown world done account devices left now sound shows is then safe mbox =
-    let (kept, there) = safe account.rows account.intent (file.stored devices.file).content (file.stored left.store).content
-    (may_seen file devices.file (shown devices.file)) shows.record_is mbox.is in
+mbox_losses_keep_order file world done account devices left now sound shows is then safe mbox =
+    let (kept, there) = safe account.rows account.intent (stored_in file devices.file).content (stored_in file left.store).content
+    (may_seen file devices.file) shows.record_is mbox.is in
     let distinct : Distinct (message_ids (selected_of world)) = distinct_filter _ _ (distinct_is _ sound.distinct) in
     let same_first : is.front.first ≡ there.front.first = same_front is.front.first there.front.first (done ++ is.front.rest)
     (kept ++ there.front.rest) (sym (first_is is) ∙ first_is there)
@@ -641,8 +642,8 @@ headline link disk file promised = all_hold
         )
 
 pub mbox_headline : Below → {W D F : Type 0} (link : WireGhosts W) (disk : DiskGhosts D) (file : FileGhosts F)
-    → ((f : F) → seen_on (file.disk f) ≡ (file.stored f).content) → MboxSessions link disk file → MboxHeadline link disk file
-mbox_headline laws link disk file seen sessions = all_hold
+    → MboxSessions link disk file → MboxHeadline link disk file
+mbox_headline laws link disk file sessions = all_hold
   where
     all_hold : MboxHeadline link disk file
     all_hold _ _ _ _ [] _ shows is = (shows, is)
@@ -668,7 +669,7 @@ mbox_headline laws link disk file seen sessions = all_hold
                 → Holds world.start (λ all. all ≡ selected_of (world_without withdrawn world)) done seen =
                 λ done seen holds front.
                 (holds, λ _ same. subst (λ (l : List Message). IsMboxFront world.start holds l) (sym same) front) in
-                let (first, there) = mbox_calls_keep_safe laws link disk file seen sessions world.start
+                let (first, there) = mbox_calls_keep_safe laws link disk file sessions world.start
                 (λ all. all ≡ selected_of (world_without withdrawn world)) done (done ++ one.more) account after devices call shows is.holds
                 (λ _ same. subst (λ (l : List Message). (f : IsMboxFront world.start is.holds l)
                 × ShowsNext call.settings call.maildrop (f.first ++ done) f.rest) (sym same) (front, shown))
@@ -691,7 +692,7 @@ mbox_headline laws link disk file seen sessions = all_hold
           let then = lost.shows in
           let (safe', (held, there)) =
           mbox_losses_leave file (HoldsAMboxPrefix world) devices left now then safe lost.mbox_is lost.record_is in (
-            mbox_losses_keep_order file seen world done account devices left now sound shows is then safe lost.mbox_is,
+            mbox_losses_keep_order file world done account devices left now sound shows is then safe lost.mbox_is,
             safe',
             (held, all_hold world held now left later sound then there),
           ),

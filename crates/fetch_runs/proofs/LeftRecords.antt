@@ -31,6 +31,7 @@ use Rattle.fetch_session.{
 }
 use Rattle.mail_terms.specs.{UniqueId.is_legal_id, Listing.{Item, is_flagged}}
 use Rattle.mail_store.specs.{
+  Devices.stored_in,
   Durable.MayLeave,
   FlatFile.Stored,
   FileName.{IsAccountText, is_held, is_odd, names_id, sized_file, stem, stem_of},
@@ -119,7 +120,7 @@ kept_legal (Some _) _ keeps id delivered = delivered_legal _ id (means_legal _ _
 -- what a call leaves. No file came, or each name was durable before; and what the record shows as delivered, or may
 -- show after a loss of power, it showed or could show before, or it has a file whose name is durable
 pub record LeavesDurably {F : Type 0} (file : FileGhosts F) (account : List ℕ) (from f : F) (before after : AccountMail) : Type 0 where
-  pub is : LeavesDurable account (account_files before.maildir (file.stored from)) (account_files after.maildir (file.stored f))
+  pub is : LeavesDurable account (account_files before.maildir (stored_in file from)) (account_files after.maildir (stored_in file f))
   pub open is use {came, last, files, durable, flushed, at_most_one}
   pub named : (came ++ last ≡ []) ⊎ AllNamed before.maildir.files
   pub shown : (id : List ℕ) → is_delivered after.rows id ≡ true → (is_delivered before.rows id ≡ true)
@@ -292,7 +293,7 @@ module _ {D F : Type 0} (files : FileGhosts F) (was : Store D F) (from : F) {set
         (is : Unready target items now before.store before.file cut.fault after.store after.file)
         → DurableUnready files was from is.content store f → Way
     Anew : (rows : List Row) (kept : Stored) → IsAnew rows before.file kept → Steady kept.content (none_open rows)
-        → files.stored f ≡ kept → IsSafeFile files f → LeavesStore files was store → Way
+        → stored_in files f ≡ kept → IsSafeFile files f → LeavesStore files was store → Way
     Begun : (result : Result (Unit {0}) Cut) → IsBegun files session store f result → Way
 
   unless : {Quiet Durable Safe : Type 0} (rows : List Row) {kept : Stored} (either : (Quiet × IsFileKept rows before.file kept) ⊎ Durable)
@@ -361,15 +362,15 @@ module _ {D F : Type 0} (files : FileGhosts F) (was : Store D F) (from : F) {set
 
 module _ (laws : Below) {D F : Type 0} (files : FileGhosts F) (device device' : D) {settings : Settings}
     {account : List ℕ} (text : IsAccountText account) {now : ℕ} {link link' : Link} {left maildir : Maildir} (from f : F)
-    {report : Report} (session : Session settings account now link (account_files left (files.stored from)) report link'
-    (account_files maildir (files.stored f)))
-    (was rows : List Row) (stood : KeepsRows (files.stored from).content was)
-    (keeps : KeepsRows (files.stored f).content rows) where
+    {report : Report} (session : Session settings account now link (account_files left (stored_in files from)) report link'
+    (account_files maildir (stored_in files f)))
+    (was rows : List Row) (stood : KeepsRows (stored_in files from).content was)
+    (keeps : KeepsRows (stored_in files f).content rows) where
   abbrev old : Stored
-  old = files.stored from
+  old = stored_in files from
 
   abbrev new : Stored
-  new = files.stored f
+  new = stored_in files f
 
   pub durable : LeavesDurable account (account_files left old) (account_files maildir new)
   durable = laws.durable settings account now link (account_files left old) report link'

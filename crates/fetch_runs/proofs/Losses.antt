@@ -8,6 +8,7 @@ use Rattle.std.{
   specs.List.{AllByRecursion, filter, list_any},
 }
 use Rattle.mail_store.specs.{
+  Devices.stored_in,
   Durable.{Disk, MayLeave},
   FileName.{is_held, name_of, names_id, stem, stem_of},
   Loss.{AreLeftAs, LosesPower},
@@ -153,14 +154,14 @@ RecordIsDurable mail state = (id : List ℕ) → is_delivered state.account.rows
 
 pub others_keep_safe : Below → {F : Type 0} (file : FileGhosts F) (from f : F) (mail : Mail) (state : State) (after : AccountMail)
     (intent : Option Intent) → Invariant mail state
-    → FileStandsFor (file.stored f).content after.rows intent → IsBetween mail state.account after
+    → FileStandsFor (stored_in file f).content after.rows intent → IsBetween mail state.account after
     → KeepsDurable file mail.account state.account from f after → RecordIsDurable mail state
     → IsCrashSafe (file.disk from) mail state → IsCrashSafe (file.disk f) mail (state_with mail state [] after)
 others_keep_safe laws file from f mail state after intent kept stands between keeps recorded safe = record {
   flushed = keeps.flushed;
   left = λ left rows opened may is id d. elim (keeps.record_is left may) [
     | inl same ↦
-        let d' = rw (same_rows laws.one (file.stored f).content rows after.rows (opened, rw same at is) (intent, stands)) at d in
+        let d' = rw (same_rows laws.one (stored_in file f).content rows after.rows (opened, rw same at is) (intent, stands)) at d in
         ((kept.recorded id (between.shows_no_more id d')).0, shown id d')
     | inr before ↦ let was = safe.left left rows opened before is id d in (was.0, on id was.0 was.1)
   ];
@@ -304,7 +305,8 @@ pub durable_is_safe : Below → {F : Type 0} (file : FileGhosts F) → DurableAc
 durable_is_safe laws file f mail state intent kept stands durable same = record {
   flushed = all_map state.account.maildir.files durable (λ g is id legal names. (is id legal names).1);
   left = λ left rows opened may is id d.
-      let here = kept.recorded id (rw (same_rows laws.one (file.stored f).content rows state.account.rows (opened, rw (same left may) at is)
+      let here = kept.recorded id (rw (same_rows laws.one (stored_in file f).content rows state.account.rows
+      (opened, rw (same left may) at is)
       (intent, stands)) at d) in (here.0, on id here.0 here.1);
   gone = all_map state.gone kept.gone (λ id is. on id is.0 is.1);
 }

@@ -11,7 +11,8 @@ use Rattle.pop3_client.specs.Texts.{body_text}
 use Rattle.rc_file.specs.Settings.{IsValid}
 use Rattle.fetch_record.specs.Record.{Intent, RecordState, Row, has_row, is_delivered, marked, none_open}
 use Rattle.mail_store.{
-  specs.{Durable.{MayLeave, seen_on}, FlatFile.Stored, Mboxrd.entry_of, Settling.MayBeLeft},
+  specs.Devices.stored_in,
+  specs.{Durable.MayLeave, FlatFile.Stored, Mboxrd.entry_of, Settling.MayBeLeft},
   specs.declared.file.flat_file.FlatFile.Ghosts as FileGhosts,
   proofs.{DiskLemmas.{may_arrive, may_now}, SettlingLemmas.all_left},
 }
@@ -229,30 +230,29 @@ module _ (base : Base) (Among : List Message → Type 0) where
 -- ---- what may be left of a file
 
 -- a loss of power may leave what calls see
-pub may_seen : {F : Type 0} (files : FileGhosts F) (f : F) → seen_on (files.disk f) ≡ (files.stored f).content
-    → MayLeave (files.disk f) (files.stored f).content
-may_seen files f shown = subst (λ o. MayLeave (files.disk f) o) shown (may_now _ _ (may_arrive _))
+pub may_seen : {F : Type 0} (files : FileGhosts F) (f : F)
+    → MayLeave (files.disk f) (stored_in files f).content
+may_seen files f = may_now _ _ (may_arrive _)
 
 -- ---- a session
 
 module _ (laws : Below) (D : Type 0) {F : Type 0} (files : FileGhosts F)
-    (shown : (f : F) → seen_on (files.disk f) ≡ (files.stored f).content)
     (base : Base) (Among : List Message → Type 0) {W S G : Type 0} (v : Call W S G) (link link' : Link)
     (valid : IsValid v.settings) (maildrop : IsMaildrop (IsTextOf base) v.maildrop) (only_new : v.settings.read_all ≡ false)
     (served : (sent got : List ℕ) → link'.sent ≡ link.sent ++ sent → link'.got ≡ link.got ++ got
     → Served v.maildrop sent got v.vanished)
     (from to : Devices F F) (held held' : RecordState) (done done' : List Message)
-    (before : Holds base Among done (mbox_holds held (files.stored from.store)))
-    (after : Holds base Among done' (mbox_holds held' (files.stored to.store)))
-    (stood : Keeps (files.stored from.file).content held) (stands : Keeps (files.stored to.file).content held')
+    (before : Holds base Among done (mbox_holds held (stored_in files from.store)))
+    (after : Holds base Among done' (mbox_holds held' (stored_in files to.store)))
+    (stood : Keeps (stored_in files from.file).content held) (stands : Keeps (stored_in files to.file).content held')
     (next : (all : List Message) (among : Among all)
     → ShowsNext v.settings v.maildrop ((before.1 all among).first ++ done) (before.1 all among).rest)
     (trust : TrustsMbox files from to) (safe : IsMboxSafe (Holds base Among) files from) where
   abbrev old : MboxAccountFiles
-  old = mbox_account_files (files.stored from.store) (files.stored from.file)
+  old = mbox_account_files (stored_in files from.store) (stored_in files from.file)
 
   abbrev new : MboxAccountFiles
-  new = mbox_account_files (files.stored to.store) (files.stored to.file)
+  new = mbox_account_files (stored_in files to.store) (stored_in files to.file)
 
   abbrev old_account : MboxMail
   old_account = mbox_holds held old.mbox
@@ -282,7 +282,7 @@ module _ (laws : Below) (D : Type 0) {F : Type 0} (files : FileGhosts F)
 
   -- the record that was read, with an mboxrd file that could be left
   read_before : (mbox : Option (List ℕ)) → MayLeave (files.disk from.store) mbox → HoldsIn held (mail_in mbox)
-  read_before mbox also = left_before old.file.content mbox (may_seen files from.file (shown from.file)) also held stood
+  read_before mbox also = left_before old.file.content mbox (may_seen files from.file) also held stood
 
   -- it is what calls see
   left_after : (left mbox : Option (List ℕ)) → left ≡ new.file.content → mbox ≡ new.mbox.content → Left left mbox

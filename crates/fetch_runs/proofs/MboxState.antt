@@ -14,7 +14,7 @@ use Rattle.fetch_session.{
   specs.declared.fault.{Cut.Cut, Fault.{Fault, TheVariants.{SeenRefused, NoMemory, StoreRefused}}},
   specs.declared.report.{Report.Report, Outcome.TheVariants.Cut as WasCut},
   specs.{Scene.{Scene, Went, Fell, NoEntry, Stops, Does, EntryNotSaved}, Session.{outcome_of, Keeping, SessionIn}},
-  specs.{Readiness.{IsSettledBy, SettlesStore}, Mbox.{IsTakenBack, RefusesAgain, RefusesEntry, intent_of}},
+  specs.{Readiness.{IsSettledBy, SettlesStore}, Mbox.{IsTakenBack, LeavesSame, RefusesAgain, RefusesEntry, intent_of}},
   proofs.TextLemmas.same_content,
 }
 use Rattle.pop3_wire.specs.{Link.Link, Place.Place, Reading.WholeReply}
@@ -28,14 +28,24 @@ use Rattle.fetch_runs.{
   proofs.Tasks.{tally_none, mid_rows, mid_keeps, part_all, tally_all, part_done, tally_no_line, full_found, tally_spare, tally_old},
   proofs.Tasks.{tally_new, full_rows},
 }
-use Rattle.mail_store.specs.{FlatFile.Stored, Mboxrd.entry_of}
+use Rattle.mail_store.specs.{
+  declared.fault.StoreFault.{StoreFault, TheVariants.{Missing, Refused, NotMbox, NoMemory as OutOfMemory}},
+  FlatFile.Stored,
+  Mboxrd.entry_of,
+}
 use Rattle.pop3_client.specs.{Conversation.Talked, Texts.body_text, Turns.retr}
 use mathlib.Core.Logic.{⊎_map}
 use Rattle.fetch_session.specs.declared.fault.Why.TheVariants as why
 
 -- the file was only looked at
 pub same_looked : (old new : Stores) (fault : Fault) → RefusesAgain old fault new → new.mbox.content ≡ old.mbox.content
-same_looked _ _ _ refuses = let looked = refuses.2 in grind (arith, looked)
+same_looked old new _ (refusal, _, _, same) = by refusal same
+  where
+    by : (refusal : StoreFault) → LeavesSame {T = Unit {0}} old.mbox (Err refusal) new.mbox → new.mbox.content ≡ old.mbox.content
+    by Missing same = ap (λ (s : Stored). s.content) same
+    by Refused same = ap (λ (s : Stored). s.content) same
+    by NotMbox same = ap (λ (s : Stored). s.content) same
+    by OutOfMemory same = ap (λ (s : Stored). s.content) same
 
 -- ---- texts
 

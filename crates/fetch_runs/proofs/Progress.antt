@@ -13,6 +13,7 @@ use Rattle.rc_file.specs.declared.settings.Settings.{Settings}
 use Rattle.fetch_rules.specs.Wanted.{at_most, fitting}
 use Rattle.fetch_record.specs.{Record.{Intent, Row, is_delivered}, RecordMeaning.FileStandsFor}
 use Rattle.mail_store.specs.{
+  Devices.stored_in,
   Durable.Disk,
   declared.{maildir.disk.MaildirDisk.Ghosts as DiskGhosts, file.flat_file.FlatFile.Ghosts as FileGhosts},
   Maildir.Maildir,
@@ -262,13 +263,13 @@ come_after aim disk disk' calls kept outcome rows rows' come keeps far next coun
 -- what has come after a loss of power
 come_back : Below → {F : Type 0} (file : FileGhosts F) (aim : Aim) (calls kept : ℕ) (from left : F) (rows now : List Row)
     (intent : Option Intent) → HasCome (file.disk from) aim calls kept rows → IsFileLeft file from left
-    → FileStandsFor (file.stored left).content now intent → HasCome (file.disk left) aim kept kept now
+    → FileStandsFor (stored_in file left).content now intent → HasCome (file.disk left) aim kept kept now
 come_back laws file aim calls kept from left rows now intent come lost stands =
-    let far = come.left (file.stored left).content now intent lost.is stands in
+    let far = come.left (stored_in file left).content now intent lost.is stands in
     record {
       far = far;
       fewer = omega arith;
-      left = λ could shown intent' may stands'. shown_left laws aim kept kept (file.stored left).content could now shown intent intent'
+      left = λ could shown intent' may stands'. shown_left laws aim kept kept (stored_in file left).content could now shown intent intent'
           stands stands' (lost.durable could may) (omega arith) far;
     }
 
@@ -303,8 +304,8 @@ get_far laws link disk file law = go
                 far = far;
                 fewer = ⊎_elim (λ none. omega (arith, none)) (λ (_, same). omega (arith, same, come.fewer)) counts;
                 left = λ could rows intent may stands. ⊎_elim (λ none. rw none (none_far aim (is_delivered rows)))
-                    (λ (keeps, same). ⊎_elim (λ is. shown_left laws aim calls next (file.stored left.file).content could account.rows rows
-                    then.intent intent then.record_is stands is (omega (arith, same, come.fewer)) far)
+                    (λ (keeps, same). ⊎_elim (λ is. shown_left laws aim calls next (stored_in file left.file).content could
+                    account.rows rows then.intent intent then.record_is stands is (omega (arith, same, come.fewer)) far)
                     (λ before. rw same (come.left could rows intent before stands)) (keeps.record_is could may)) counts;
               }),
         )

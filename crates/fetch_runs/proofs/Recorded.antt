@@ -15,6 +15,7 @@ use Rattle.fetch_session.specs.{
   Task.{ids_in, marked_ids},
 }
 use Rattle.mail_store.specs.{
+  Devices.stored_in,
   Durable.MayLeave,
   FlatFile.Stored,
   Held.flags_of,
@@ -45,16 +46,16 @@ merged_shows laws AsEntries store was items now id d =
 
 module _ (laws : Below) {D F : Type 0} (files : FileGhosts F) (was store : Store D F) (from f : F) {settings : Settings}
     {target : Target} {now : ℕ} {link link' : Link} {held held' : Stores} {report : Report}
-    (session : SessionIn settings target now link (keeping held (files.stored from)) report link' (keeping held' (files.stored f)))
-    (shown rows : List Row) (stood : KeepsRows (files.stored from).content shown) (keeps : KeepsRows (files.stored f).content rows)
+    (session : SessionIn settings target now link (keeping held (stored_in files from)) report link' (keeping held' (stored_in files f)))
+    (shown rows : List Row) (stood : KeepsRows (stored_in files from).content shown) (keeps : KeepsRows (stored_in files f).content rows)
     (trusted : AreTrusted files was from)
-    (none_left : (files.stored f).content ≡ None → (left : Option (List ℕ)) → MayLeave (files.disk f) left → left ≡ None)
+    (none_left : (stored_in files f).content ≡ None → (left : Option (List ℕ)) → MayLeave (files.disk f) left → left ≡ None)
     (stays : ShowsAll shown rows) where
   abbrev old : Stored
-  old = files.stored from
+  old = stored_in files from
 
   abbrev new : Stored
-  new = files.stored f
+  new = stored_in files f
 
   -- whatever may be left is what calls see
   by_safe : IsSafeFile files f → (could : Option (List ℕ)) (then : List Row) → MayLeave (files.disk f) could

@@ -6,6 +6,7 @@ use Rattle.mail_terms.specs.UniqueId.{is_legal_id, has_id}
 use Rattle.rc_file.specs.declared.settings.Settings.{Settings}
 use Rattle.fetch_record.specs.{Record.Intent, RecordMeaning.FileStandsFor}
 use Rattle.mail_store.specs.{
+  Devices.stored_in,
   Durable.MayLeave,
   Loss.LosesPower,
   FileName.{is_held, stem_of},
@@ -53,7 +54,7 @@ pub record IsCall {W D F S : Type 0} (link : WireGhosts W) (disk : DiskGhosts D)
 pub record Shows {D F : Type 0} (disk : DiskGhosts D) (file : FileGhosts F) (devices : Devices D F)
     (account : AccountMail) : Type 0 where
   pub intent : Option Intent
-  pub record_is : FileStandsFor (file.stored devices.file).content account.rows intent
+  pub record_is : FileStandsFor (stored_in file devices.file).content account.rows intent
   pub maildir : account.maildir ≡ disk.maildir devices.store
 
 -- the state with what readers left of its Maildir
@@ -140,8 +141,8 @@ EmptyAccountsHold = (mail : Mail) (state : State) → state.account.rows ≡ [] 
 
 -- the devices show this account: these rows and this intent, for which the record's file stands, and these bytes
 pub record ShowsMbox {F : Type 0} (file : FileGhosts F) (devices : Devices F F) (account : MboxMail) : Type 0 where
-  pub record_is : FileStandsFor (file.stored devices.file).content account.rows account.intent
-  pub bytes : account.file ≡ mail_in (file.stored devices.store).content
+  pub record_is : FileStandsFor (stored_in file devices.file).content account.rows account.intent
+  pub bytes : account.file ≡ mail_in (stored_in file devices.store).content
 
 -- a loss of power left this account, whose record can be read, and new devices over it, of which all is durable
 pub record IsMboxLeftByLoss {F : Type 0} (file : FileGhosts F) (from left : Devices F F) (account : MboxMail)
@@ -198,6 +199,7 @@ MboxCallsKeepPromises {W} {D} {F} link disk file = (base : Base) (done : List Me
 abbrev pub DurableMboxesAreSafe : {F : Type 0} → FileGhosts F → Type 0
 DurableMboxesAreSafe {F} file = (base : Base) (done : List Message) (account : MboxMail) (devices : Devices F F)
     → ShowsMbox file devices account → HoldsEntries base done account
-    → ((left : Option (List ℕ)) → MayLeave (file.disk devices.file) left → left ≡ (file.stored devices.file).content)
-    → ((left : Option (List ℕ)) → MayLeave (file.disk devices.store) left → left ≡ (file.stored devices.store).content)
+    → ((left : Option (List ℕ)) → MayLeave (file.disk devices.file) left → left ≡ (stored_in file devices.file).content)
+    → ((left : Option (List ℕ)) → MayLeave (file.disk devices.store) left → left ≡
+    (stored_in file devices.store).content)
     → IsMboxSafe (HoldsEntries base) file devices

@@ -5,6 +5,7 @@ use Rattle.std.specs.{
   List.AllByRecursion,
 }
 use Rattle.mail_store.specs.{
+  Devices.stored_in,
   Durable.{Disk, Trusted, MayLeave},
   FileName.{is_held, names_id},
   Maildir.{File, IsDurableFile},
@@ -60,13 +61,13 @@ pub record KeepsRecorded (disk disk' : Disk) (rows rows' : List Row) (outcome : 
 -- no flush of the record's file was refused before a call, and if no such file is left, a loss of power leaves none
 abbrev pub TrustsRecord : {F : Type 0} → FileGhosts F → F → F → Type 0
 TrustsRecord file from f = Trusted (file.disk from).now
-    × ((file.stored f).content ≡ None → (left : Option (List ℕ)) → MayLeave (file.disk f) left → left ≡ None)
+    × ((stored_in file f).content ≡ None → (left : Option (List ℕ)) → MayLeave (file.disk f) left → left ≡ None)
 
 -- nor of an mboxrd file, before it or in it; without a record's file a loss of power leaves of this what calls see
 abbrev pub TrustsMbox : {F : Type 0} → FileGhosts F → Devices F F → Devices F F → Type 0
 TrustsMbox file from left = TrustsRecord file from.file left.file × Trusted (file.disk from.store).now
-    × Trusted (file.disk left.store).now × ((file.stored left.file).content ≡ None
-    → (bytes : Option (List ℕ)) → MayLeave (file.disk left.store) bytes → bytes ≡ (file.stored left.store).content)
+    × Trusted (file.disk left.store).now × ((stored_in file left.file).content ≡ None
+    → (bytes : Option (List ℕ)) → MayLeave (file.disk left.store) bytes → bytes ≡ (stored_in file left.store).content)
 
 -- whatever a loss of power leaves of both files, if the record can be read, this holds of some messages and the account
 abbrev pub IsMboxSafe : {F : Type 0} → (List Message → MboxMail → Type 0) → FileGhosts F → Devices F F → Type 0
@@ -76,8 +77,8 @@ IsMboxSafe Holds file devices = (rows : List Row) (intent : Option Intent) (left
 
 -- a loss of power left what this file holds, and of the new device over it nothing else may be left
 pub record IsFileLeft {F : Type 0} (file : FileGhosts F) (from left : F) : Type 0 where
-  pub is : MayLeave (file.disk from) (file.stored left).content
-  pub durable : (bytes : Option (List ℕ)) → MayLeave (file.disk left) bytes → bytes ≡ (file.stored left).content
+  pub is : MayLeave (file.disk from) (stored_in file left).content
+  pub durable : (bytes : Option (List ℕ)) → MayLeave (file.disk left) bytes → bytes ≡ (stored_in file left).content
 
 -- what others leave is as durable as it was, and of the record may be left what it holds, or could be left before
 pub record KeepsDurable {F : Type 0} (file : FileGhosts F) (account : List ℕ) (before : AccountMail) (from f : F)
@@ -86,15 +87,15 @@ pub record KeepsDurable {F : Type 0} (file : FileGhosts F) (account : List ℕ) 
       → is_held account after.maildir id ≡ true → has_named account after.maildir id ≡ true
   pub flushed : AllByRecursion (IsFlushedFor account) after.maildir.files
   pub record_is : (left : Option (List ℕ)) → MayLeave (file.disk f) left
-      → (left ≡ (file.stored f).content) ⊎ MayLeave (file.disk from) left
+      → (left ≡ (stored_in file f).content) ⊎ MayLeave (file.disk from) left
 
 -- a law: a state with the invariant is safe if the files of the account are durable and nothing else may be left of the
 -- record's file than what it holds
 abbrev pub DurableAccountsAreSafe : {F : Type 0} → FileGhosts F → Type 0
 DurableAccountsAreSafe {F} file = (f : F) (mail : Mail) (state : State) (intent : Option Intent) → Invariant mail state
-    → FileStandsFor (file.stored f).content state.account.rows intent
+    → FileStandsFor (stored_in file f).content state.account.rows intent
     → AllByRecursion (IsDurableFor mail.account) state.account.maildir.files
-    → ((left : Option (List ℕ)) → MayLeave (file.disk f) left → left ≡ (file.stored f).content)
+    → ((left : Option (List ℕ)) → MayLeave (file.disk f) left → left ≡ (stored_in file f).content)
     → IsCrashSafe (file.disk f) mail state
 
 -- exactly the first of these messages are held or were taken away, and all of them but perhaps the last are durable

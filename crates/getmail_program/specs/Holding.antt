@@ -2,6 +2,7 @@
 use Rattle.std.specs.{Prelude.{◌≡◌, ◌⊎◌, ◌&&◌, not, ℕ, Bool, true, false, List, Err}, List.list_any}
 use Rattle.pop3_wire.specs.declared.wire.Wire.{Ghosts as WireGhosts}
 use Rattle.mail_store.specs.{
+  Devices.stored_in,
   declared.{maildir.disk.MaildirDisk.Ghosts as DiskGhosts, file.flat_file.FlatFile.Ghosts as FileGhosts},
   Maildir.Maildir as InMaildir,
 }
@@ -37,8 +38,8 @@ PreviewsAccount link disk file now old wire preview new wire' =
     link.sound wire' → is_sound disk file new.store → file.sound new.file
     → AfterTakingIn (stores_of disk file old.store)
     (λ left. Pretends old.settings (target_of old.store (digits_of old.settings)) now
-    (link.history wire) (keeping left (file.stored old.file)) preview (link.history wire')
-    (keeping (stores_of disk file new.store) (file.stored new.file)))
+    (link.history wire) (keeping left (stored_in file old.file)) preview (link.history wire')
+    (keeping (stores_of disk file new.store) (stored_in file new.file)))
 
 -- a run would put a message into a Maildir
 abbrev pub would_store : MessagePreview → Bool

@@ -1,4 +1,5 @@
 -- Calls of `fetch_local` are calls of `session` whose servers are honest, so what is promised of those holds of them.
+use Rattle.mail_store.specs.Devices.{stored_in}
 use Rattle.std.proofs.Common.{◌≡◌, ℕ, List, [], ◌∷◌, ◌++◌, None, refl}
 use Rattle.mail_store.specs.declared.{maildir.disk.MaildirDisk.Ghosts as DiskGhosts, file.flat_file.FlatFile.Ghosts as FileGhosts}
 use Rattle.pop3_wire.specs.{declared.wire.Wire.Ghosts as WireGhosts}
@@ -104,7 +105,7 @@ from_nothing link disk file drop empty law mail devices list no_file no_record =
 pub mbox_from_nothing : {M D F : Type 0} (link : WireGhosts (Loop M)) (disk : DiskGhosts D) (file : FileGhosts F) (drop : DropGhosts M)
     → MboxStarts → MboxFetchesKeepPromises link disk file drop → MboxFetchesFromNothing link disk file drop
 mbox_from_nothing link disk file drop starts law text_of devices list no_record =
-    let bytes = mail_in (file.stored devices.store).content in
+    let bytes = mail_in (stored_in file devices.store).content in
     let account : MboxMail = record { rows = []; intent = None; file = bytes } in
     law (no_entries text_of bytes) [] account devices list (record { record_is = rw no_record (refl, refl); bytes = refl })
     (starts (no_entries text_of bytes) account refl)

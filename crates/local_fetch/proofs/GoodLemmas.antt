@@ -13,6 +13,7 @@ use Rattle.rc_file.specs.{Settings.IsValid, declared.settings.Settings.Settings}
 use Rattle.fetch_record.specs.Record.{Row}
 use Rattle.fetch_rules.specs.{Plan.{fetches, step_of}, declared.plans.Step.Step}
 use Rattle.mail_store.specs.{
+  Devices.stored_in,
   Maildir.{Maildir, WereTaken},
   declared.{maildir.disk.MaildirDisk.Ghosts as DiskGhosts, file.flat_file.FlatFile.Ghosts as FileGhosts},
 }
@@ -230,7 +231,7 @@ pub good_fetches : {M D F : Type 0} (link : WireGhosts (Loop M)) (disk : DiskGho
 good_fetches link disk file drop history leads law now old server report new wire fetched store_sound file_sound drop_sound good =
     let (wire_was, store_was, file_was, led, (left, taken, ran)) = fetched.made.2 fetched.link_sound store_sound file_sound in
     let stores = with_maildir (stores_of disk file old.store) left in
-    let before = keeping stores (file.stored old.file) in
+    let before = keeping stores (stored_in file old.file) in
     let done : SessionIn old.settings (target_in old) now unused before report wire.link (kept_in disk file new) =
     rw (history (loop_to server), history wire) at ran.0 in
     let serves = leads (loop_to server) wire led in

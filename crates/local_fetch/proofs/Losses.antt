@@ -5,6 +5,7 @@ use Rattle.std.{
   specs.Prelude.option_map,
 }
 use Rattle.mail_store.{
+  specs.Devices.stored_in,
   specs.declared.{maildir.disk.MaildirDisk.Ghosts as DiskGhosts, file.flat_file.FlatFile.Ghosts as FileGhosts},
   specs.{Durable.{Blob, IsLeftOf, MayLeave, content_in}, Maildir.{File, names_of}},
   proofs.DiskLemmas.may_now,
@@ -25,7 +26,7 @@ use Rattle.fetch_runs.specs.{
 use Rattle.local_fetch.specs.Losses.{LossesHappen, MboxLossesHappen}
 
 file_left : {F : Type 0} (file : FileGhosts F) (from left : F) (bytes : Option (List ℕ)) → MayLeave (file.disk from) bytes
-    → (file.stored left).content ≡ bytes → ((other : Option (List ℕ)) → MayLeave (file.disk left) other → other ≡ bytes)
+    → (stored_in file left).content ≡ bytes → ((other : Option (List ℕ)) → MayLeave (file.disk left) other → other ≡ bytes)
     → IsFileLeft file from left
 file_left file from left bytes may same only = record { is = rw same may; durable = λ other is. only other is ∙ sym same }
 
@@ -65,7 +66,7 @@ no_names (f ∷ files) none = absurd (let never = none in cc)
 -- a file whose name isn't durable, beside no record, is taken
 pub names_are_taken : {D F : Type 0} (disk : DiskGhosts D) (file : FileGhosts F) → MailIsLost disk → FilesAreLost file
     → (store : D) (f : F) (one : File) → (disk.maildir store).files ≡ one ∷ [] → one.is_named ≡ false
-    → (file.stored f).content ≡ None → MayLeave (file.disk f) None
+    → (stored_in file f).content ≡ None → MayLeave (file.disk f) None
     → (from left : Devices D F) × (account after : AccountMail) × Shows disk file from account
     × IsLeftByLoss disk file from left after × ((g : File) × (account.maildir.files ≡ g ∷ [])) × (after.maildir.files ≡ [])
 names_are_taken {D} {F} disk file mail_lost file_lost store f one is_one unnamed no_record may =
@@ -78,13 +79,13 @@ names_are_taken {D} {F} disk file mail_lost file_lost store f one is_one unnamed
 
 -- a byte of an mboxrd file that wasn't flushed, beside no record, is taken
 pub bytes_are_taken : {F : Type 0} (file : FileGhosts F) → FilesAreLost file → (store f : F) (byte : ℕ)
-    → (file.stored store).content ≡ Some (byte ∷ []) → MayLeave (file.disk store) (Some [])
-    → (file.stored f).content ≡ None → MayLeave (file.disk f) None
+    → (stored_in file store).content ≡ Some (byte ∷ []) → MayLeave (file.disk store) (Some [])
+    → (stored_in file f).content ≡ None → MayLeave (file.disk f) None
     → (from left : Devices F F) × (account after : MboxMail) × ShowsMbox file from account
     × IsMboxLeftByLoss file from left after × ((b : ℕ) × (account.file ≡ b ∷ [])) × (after.file ≡ [])
 bytes_are_taken {F} file lost store f byte is_byte may_store no_record may =
     let from : Devices F F = record { store = store; file = f } in
-    let account : MboxMail = record { rows = []; intent = None; file = mail_in (file.stored store).content } in
+    let account : MboxMail = record { rows = []; intent = None; file = mail_in (stored_in file store).content } in
     let shows : ShowsMbox file from account = record { record_is = rw no_record (refl, refl); bytes = refl } in
     let (left, is_left) = mbox_losses_happen file lost from (Some []) None [] None may_store may (refl, refl) in
     (from, left, account, _, shows, is_left, (byte, ap mail_in is_byte), refl)

@@ -7,6 +7,7 @@ use Rattle.std.{
   specs.{List.{AllByRecursion, filter}, Prelude.bytes_eq},
 }
 use Rattle.mail_store.specs.{
+  Devices.stored_in,
   declared.{maildir.disk.MaildirDisk.Ghosts as DiskGhosts, file.flat_file.FlatFile.Ghosts as FileGhosts},
   FileName.{is_held, is_odd, stem_of},
   Maildir.Maildir,
@@ -152,8 +153,8 @@ mail_is_moved {M} {D} {F} link disk file drop history leads laws conversations l
     all_deleted devices fetch is ends clear delete =
         let (_, _, _, led, (left, taken, (session, _))) = is.fetched.made.2 is.fetched.link_sound is.store_sound is.file_sound in
         let account = digits_of fetch.settings in
-        let before = account_files left (file.stored devices.file) in
-        let after = account_files (disk.maildir fetch.after.store) (file.stored fetch.after.file) in
+        let before = account_files left (stored_in file devices.file) in
+        let after = account_files (disk.maildir fetch.after.store) (stored_in file fetch.after.file) in
         let done : Session fetch.settings account fetch.now unused before fetch.report fetch.wire.link after =
         rw (history (loop_to fetch.server), history fetch.wire) at session in
         let (sent, got, sent_is, got_is, said) = conversations fetch.settings account fetch.now unused before fetch.report

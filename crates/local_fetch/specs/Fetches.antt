@@ -5,6 +5,7 @@ use Rattle.std.specs.{
   List.{AllByRecursion, count_by},
 }
 use Rattle.mail_store.specs.{
+  Devices.stored_in,
   declared.{maildir.disk.MaildirDisk.Ghosts as DiskGhosts, file.flat_file.FlatFile.Ghosts as FileGhosts},
   FileName.{is_held, is_odd, stem_of},
   Maildir.Maildir,
@@ -129,7 +130,7 @@ abbrev pub FetchesFromNothing : {M D F : Type 0} → WireGhosts (Loop M) → Dis
     → Type 0
 FetchesFromNothing {M} {D} {F} link disk file drop = (mail : Mail) (devices : Devices D F)
     (list : List (Happening (Fetch M D F) (Devices D F) AccountMail)) → (disk.maildir devices.store).files ≡ []
-    → (file.stored devices.file).content ≡ None
+    → (stored_in file devices.file).content ≡ None
     → KeepPromises link disk file drop mail (nothing_yet (disk.maildir devices.store)) devices list
 
 -- each DELE that was sent whole is for one of these messages, whose id is of this kind; and an uncut call reports as
@@ -147,7 +148,7 @@ pub record SendsFor (messages : List Message) (Is : List ℕ → Type 0) (report
 abbrev pub FirstFetchesKeepMail : {M D F : Type 0} → WireGhosts (Loop M) → DiskGhosts D → FileGhosts F → DropGhosts M
     → Type 0
 FirstFetchesKeepMail {M} {D} {F} link disk file drop = (text : List ℕ → List ℕ) (devices : Devices D F)
-    (fetch : Fetch M D F) → (disk.maildir devices.store).files ≡ [] → (file.stored devices.file).content ≡ None
+    (fetch : Fetch M D F) → (disk.maildir devices.store).files ≡ [] → (stored_in file devices.file).content ≡ None
     → IsFetch link disk file drop InMaildir (λ id came. came ≡ text id) devices fetch
     → let account = digits_of fetch.settings in (vanished : List (List ℕ)) × ServerRemoves drop fetch vanished
     × AllByRecursion (λ id. is_held account (disk.maildir fetch.after.store) id ≡ true) vanished
@@ -205,8 +206,8 @@ no_entries text bytes = record { start = bytes; had = λ id. false; text = text 
 abbrev pub MboxFetchesFromNothing : {M D F : Type 0} → WireGhosts (Loop M) → DiskGhosts D → FileGhosts F
     → DropGhosts M → Type 0
 MboxFetchesFromNothing {M} {D} {F} link disk file drop = (text : List ℕ → List ℕ) (devices : Devices F F)
-    (list : List (Happening (Fetch M F F) (Devices F F) MboxMail)) → (file.stored devices.file).content ≡ None
-    → let bytes = mail_in (file.stored devices.store).content in
+    (list : List (Happening (Fetch M F F) (Devices F F) MboxMail)) → (stored_in file devices.file).content ≡ None
+    → let bytes = mail_in (stored_in file devices.store).content in
     KeepMboxPromises link disk file drop (no_entries text bytes) []
     (record { rows = []; intent = None; file = bytes }) devices list
 
@@ -216,14 +217,15 @@ MboxFetchesFromNothing {M} {D} {F} link disk file drop = (text : List ℕ → Li
 abbrev pub MboxFirstFetchesKeepMail : {M D F : Type 0} → WireGhosts (Loop M) → DiskGhosts D → FileGhosts F
     → DropGhosts M → Type 0
 MboxFirstFetchesKeepMail {M} {D} {F} link disk file drop = (text : List ℕ → List ℕ) (devices : Devices F F)
-    (fetch : Fetch M F F) → (file.stored devices.file).content ≡ None → fetch.settings.read_all ≡ false
+    (fetch : Fetch M F F) → (stored_in file devices.file).content ≡ None → fetch.settings.read_all ≡ false
     → IsFetch link disk file drop InMbox (IsTextOf (no_entries text [])) devices fetch
     → (vanished : List (List ℕ)) × ServerRemoves drop fetch vanished × (done : List Message)
     × AllByRecursion (λ id. has_id (message_ids done) id ≡ true) vanished
     × (sent : List ℕ) × ((link.history fetch.wire).sent ≡ (link.history (loop_to fetch.server)).sent ++ sent)
     × SendsFor (shown_by drop fetch.server) (λ id. has_id (message_ids done) id ≡ true) fetch.report sent
     × (fetch.report.outcome ≡ Ended
-    → (mail_in (file.stored fetch.after.store).content ≡ mail_in (file.stored devices.store).content ++ entries_of done)
-    × ((rows : List Row) × FileStandsFor (file.stored fetch.after.file).content rows None))
+    → (mail_in (stored_in file fetch.after.store).content ≡ mail_in (stored_in file devices.store).content ++ entries_of
+    done)
+    × ((rows : List Row) × FileStandsFor (stored_in file fetch.after.file).content rows None))
     × (found : List Message) × FetchesWanted (as_call drop fetch vanished) (λ id. false) (has_id (message_ids found))
     (λ m. has_id (message_ids done) m.uid ≡ true)

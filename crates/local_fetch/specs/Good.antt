@@ -6,6 +6,7 @@ use Rattle.std.specs.{
 }
 use Rattle.mail_terms.specs.Text.{lines_of_text}
 use Rattle.mail_store.specs.{
+  Devices.stored_in,
   FileName.stem_of,
   Maildir.all_there,
   declared.{maildir.disk.MaildirDisk.Ghosts as DiskGhosts, file.flat_file.FlatFile.Ghosts as FileGhosts},
@@ -51,17 +52,17 @@ pub record IsUnhindered {M D F : Type 0} (disk : DiskGhosts D) (file : FileGhost
   pub messages : AllByRecursion IsMessage (there (drop.mail server.drop).slots)
   pub within : AllByRecursion IsWithin (there (drop.mail server.drop).slots)
   pub usable : IsUsable (target_in old) (stores_of disk file new.store)
-  pub read : (loaded : Loaded) × FileReadAs (file.stored old.file).content loaded
+  pub read : (loaded : Loaded) × FileReadAs (stored_in file old.file).content loaded
   pub store_refused : refused_in (target_in old) (stores_of disk file new.store)
       ≡ refused_in (target_in old) (stores_of disk file old.store)
-  pub file_refused : (file.stored new.file).failures ≡ (file.stored old.file).failures
+  pub file_refused : (stored_in file new.file).failures ≡ (stored_in file old.file).failures
   pub drop_refused : (drop.mail wire.machine.drop).failures ≡ (drop.mail server.drop).failures
   pub up : wire.down ≡ false
   pub memory : report.outcome ≢ WasCut NoMemory
 
 -- what the devices of an account hold
 abbrev pub kept_in : {D F : Type 0} → DiskGhosts D → FileGhosts F → Holding D F → Keeping
-kept_in disk file account = keeping (stores_of disk file account.store) (file.stored account.file)
+kept_in disk file account = keeping (stores_of disk file account.store) (stored_in file account.file)
 
 -- a law: the session ends, and each message that it wants is stored
 abbrev pub GoodFetchesStoreAll : {M D F : Type 0} → WireGhosts (Loop M) → DiskGhosts D → FileGhosts F → DropGhosts M
@@ -72,7 +73,7 @@ GoodFetchesStoreAll {M} {D} {F} link disk file drop = (now : ℕ) (old : Holding
     → is_sound disk file new.store → file.sound new.file → drop.sound wire.machine.drop
     → IsUnhindered disk file drop old server report new wire
     → (report.outcome ≡ Ended) × AfterTakingIn (stores_of disk file old.store) (λ left. StoresAll old.settings
-    (target_in old) now unused (keeping left (file.stored old.file)) wire.link (kept_in disk file new))
+    (target_in old) now unused (keeping left (stored_in file old.file)) wire.link (kept_in disk file new))
 
 -- ---- one message
 
@@ -95,7 +96,7 @@ pub record HadMemory {D F : Type 0} (disk : DiskGhosts D) (file : FileGhosts F) 
   pub file_sound : file.sound fetch.after.file
   pub drop_sound : drop.sound fetch.wire.machine.drop
   pub store_refused : (disk.maildir fetch.after.store).failures ≡ (disk.maildir devices.store).failures
-  pub file_refused : (file.stored fetch.after.file).failures ≡ (file.stored devices.file).failures
+  pub file_refused : (stored_in file fetch.after.file).failures ≡ (stored_in file devices.file).failures
   pub drop_refused : (drop.mail fetch.wire.machine.drop).failures ≡ 0
   pub up : fetch.wire.down ≡ false
   pub memory : fetch.report.outcome ≢ WasCut NoMemory
@@ -106,7 +107,7 @@ abbrev pub OneIsStored : {D F : Type 0} → WireGhosts (Loop DropMail) → DiskG
     → DropGhosts DropMail → Type 0
 OneIsStored {D} {F} link disk file drop = (message : Message) (devices : Devices D F) (fetch : Fetch DropMail D F)
     → IsMessage message → IsWithin message → is_within fetch.settings.max_size message.size ≡ true
-    → (disk.maildir devices.store).files ≡ [] → (file.stored devices.file).content ≡ None
+    → (disk.maildir devices.store).files ≡ [] → (stored_in file devices.file).content ≡ None
     → fetch.server ≡ server_with fetch.settings message
     → WasFetchedLocally link disk file drop fetch.now (account_over InMaildir fetch.settings devices) fetch.server
     fetch.report (account_over InMaildir fetch.settings fetch.after) fetch.wire

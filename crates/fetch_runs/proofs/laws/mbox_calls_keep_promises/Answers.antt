@@ -3,4 +3,4 @@ use Rattle.fetch_runs.proofs.laws.mbox_calls_keep_promises.Goals as goal
 
 pub returns : goal.returns
 returns g c = lemmas.mbox_calls_keep_promises c.laws_below.ensures g.W.Wire g.D.MaildirDisk g.F.FlatFile
-    g.met.F.FlatFile.shown c.sessions_by_store.ensures.mbox
+    c.sessions_by_store.ensures.mbox
