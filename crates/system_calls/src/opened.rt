@@ -1,5 +1,6 @@
 //! An open file or folder, with its path.
-ghost use Rattle.std.specs.Prelude.{◌≡◌, Err, IfErr, IfOk, IfSome, Ok, string_bytes};
+ghost use Rattle.std.specs.Prelude.{◌≡◌, Err, IfErr, IfOk, Ok, string_bytes};
+ghost use Rattle.system_calls.specs.Denials.{IsAbout};
 
 use crate::refusal::Denial;
 use crate::refusals::CallTrace;
@@ -18,7 +19,7 @@ impl<S> OpenAt<S> {
     pub fn asked<T>(&self, call: &str, answer: io::Result<T>) -> Result<T, Denial>
         ensures done { IfOk result (λ value. answer ≡ Ok value) }
         ensures denied { IfErr result (λ denial. (answer ≡ Err denial.error)
-            × IfSome denial.path (λ own. string_bytes own ≡ string_bytes self.now.path)) }
+            × IsAbout (string_bytes self.now.path) denial) }
     {
         self.trace.asked(call, self.path.as_str(), answer)
     }
@@ -26,7 +27,7 @@ impl<S> OpenAt<S> {
     /// An error about this, with its path.
     pub fn denied(&self, error: io::Error) -> Denial
         ensures error { result.error ≡ error }
-        ensures path { IfSome result.path (λ own. string_bytes own ≡ string_bytes self.now.path) }
+        ensures path { IsAbout (string_bytes self.now.path) result }
     {
         Denial::of(self.trace.alloc, self.path.as_str(), error)
     }

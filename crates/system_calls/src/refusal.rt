@@ -5,7 +5,10 @@ ghost use Rattle.std.specs.{
   IoError.{error_kind, raw_os_error},
 };
 ghost use Rattle.std.specs.declared.io.ErrorKind.TheVariants.{OutOfMemory};
-ghost use Rattle.system_calls.specs.Line.{IsRefusalText, TellsRefusal};
+ghost use Rattle.system_calls.specs.{
+  Denials.{IsAbout, IsReason},
+  Line.{IsRefusalText, TellsRefusal},
+};
 
 use crate::line::{shown, write_line};
 use std::alloc::{AllocError, AllocFailed, Global};
@@ -43,7 +46,7 @@ impl Denial {
     /// An error about a path.
     pub fn of(alloc: Global, path: &str, error: io::Error) -> Denial
         ensures error { result.error ≡ error }
-        ensures path { IfSome result.path (λ own. string_bytes own ≡ path.now) }
+        ensures path { IsAbout path.now result }
         ensures memory { error_kind error ≡ ErrorKind.OutOfMemory → raw_os_error error ≡ None → result.path ≡ None }
     {
         let path = if is_want_of_memory(&error) {
@@ -57,7 +60,7 @@ impl Denial {
     /// A refusal of what the system would grant, with the reason in words.
     pub fn because(alloc: Global, path: &str, words: &str) -> Denial
         ensures kind { error_kind result.error ≡ ErrorKind.Other }
-        ensures path { IfSome result.path (λ own. string_bytes own ≡ path.now) }
+        ensures path { IsAbout path.now result }
     {
         Denial::of(alloc, path, io::Error::other(words))
     }
@@ -138,7 +141,9 @@ pub fn refusal_text(
 }
 
 /// The system's words in the text of an error, without its number.
-fn reason(text: &str) -> &str {
+fn reason(text: &str) -> &str
+    ensures { IsReason text.now result.now }
+{
     match text.rsplit_once(" (os error ") {
         Some((reason, _)) => reason,
         None => text,

@@ -1,8 +1,9 @@
 //! What is refused to a device or a connection.
 ghost use Rattle.std.specs.{
   IoError.error_kind,
-  Prelude.{◌≡◌, Err, IfErr, IfOk, IfSome, IsErrAnd, Ok, string_bytes},
+  Prelude.{◌≡◌, Err, IfErr, IfOk, IsErrAnd, Ok},
 };
+ghost use Rattle.system_calls.specs.Denials.{IsAbout};
 
 use crate::refusal::{Denial, Refusal, is_want_of_memory, tell_refusal};
 use std::alloc::Global;
@@ -40,8 +41,7 @@ impl CallTrace {
         answer: io::Result<T>,
     ) -> Result<T, Denial>
         ensures done { IfOk result (λ value. answer ≡ Ok value) }
-        ensures denied { IfErr result (λ denial. (answer ≡ Err denial.error)
-            × IfSome denial.path (λ own. string_bytes own ≡ path.now)) }
+        ensures denied { IfErr result (λ denial. (answer ≡ Err denial.error) × IsAbout path.now denial) }
     {
         match answer {
             Ok(value) => Ok(value),
@@ -77,8 +77,7 @@ impl Refusals {
     /// The answer of a call of the system, which is shown if it is a refusal.
     pub fn asked<T>(&self, call: &str, path: &str, answer: io::Result<T>) -> Result<T, Denial>
         ensures done { IfOk result (λ value. answer ≡ Ok value) }
-        ensures denied { IfErr result (λ denial. (answer ≡ Err denial.error)
-            × IfSome denial.path (λ own. string_bytes own ≡ path.now)) }
+        ensures denied { IfErr result (λ denial. (answer ≡ Err denial.error) × IsAbout path.now denial) }
     {
         self.trace.asked(call, path, answer)
     }

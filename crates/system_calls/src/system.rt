@@ -1,5 +1,6 @@
 //! The machine's file system, whose refused calls are shown.
-ghost use Rattle.std.specs.Prelude.{◌≡◌, ◌++◌, Err, IfErr, IfOk, IfSome, Ok, codes, string_bytes};
+ghost use Rattle.std.specs.Prelude.{◌≡◌, ◌++◌, Err, IfErr, IfOk, Ok, codes, string_bytes};
+ghost use Rattle.system_calls.specs.Denials.{IsAbout};
 
 use crate::opened::OpenAt;
 use crate::refusal::Denial;
@@ -31,8 +32,7 @@ impl<'a, R: AllocGlobal> System<'a, R> {
     /// The answer of a call of the system, which is shown if it is a refusal.
     pub fn asked<T>(&self, call: &str, path: &str, answer: io::Result<T>) -> Result<T, Denial>
         ensures done { IfOk result (λ value. answer ≡ Ok value) }
-        ensures denied { IfErr result (λ denial. (answer ≡ Err denial.error)
-            × IfSome denial.path (λ own. string_bytes own ≡ path.now)) }
+        ensures denied { IfErr result (λ denial. (answer ≡ Err denial.error) × IsAbout path.now denial) }
     {
         self.refusals.asked(call, path, answer)
     }
@@ -40,13 +40,17 @@ impl<'a, R: AllocGlobal> System<'a, R> {
 
 impl<'a, R: Files + AllocGlobal> System<'a, R> {
     /// The metadata of what a path leads to.
-    pub fn stat(&self, path: &str) -> Result<Metadata, Denial> {
+    pub fn stat(&self, path: &str) -> Result<Metadata, Denial>
+        ensures denied { IfErr result (IsAbout path.now) }
+    {
         self.asked("stat", path, fs::metadata(self.rt, path))
     }
 
     /// The metadata of what a path names. That there is nothing isn't shown: the programs ask whether a name
     /// is free.
-    pub fn lstat(&self, path: &str) -> Result<Metadata, Denial> {
+    pub fn lstat(&self, path: &str) -> Result<Metadata, Denial>
+        ensures denied { IfErr result (IsAbout path.now) }
+    {
         match fs::symlink_metadata(self.rt, path) {
             Err(error) if error.kind() == ErrorKind::NotFound => {
                 Err(Denial::of(self.alloc(), path, error))
@@ -56,12 +60,18 @@ impl<'a, R: Files + AllocGlobal> System<'a, R> {
     }
 
     /// Opens a file or a folder to read it.
-    pub fn open(&self, path: &str) -> Result<OpenAt<R::File>, Denial> {
+    pub fn open(&self, path: &str) -> Result<OpenAt<R::File>, Denial>
+        ensures opened { IfOk result (λ handle. string_bytes handle.path ≡ path.now) }
+        ensures denied { IfErr result (IsAbout path.now) }
+    {
         self.open_with(OpenOptions::new().read(true), path)
     }
 
     /// Opens a file in another way.
-    pub fn open_with(&self, how: &OpenOptions, path: &str) -> Result<OpenAt<R::File>, Denial> {
+    pub fn open_with(&self, how: &OpenOptions, path: &str) -> Result<OpenAt<R::File>, Denial>
+        ensures opened { IfOk result (λ handle. string_bytes handle.path ≡ path.now) }
+        ensures denied { IfErr result (IsAbout path.now) }
+    {
         let own = String::from_str(self.alloc(), path)?;
         let inner = self.asked("open", path, how.open(self.rt, path))?;
         Ok(OpenAt {
@@ -72,12 +82,16 @@ impl<'a, R: Files + AllocGlobal> System<'a, R> {
     }
 
     /// Gives a file another name.
-    pub fn rename(&self, from: &str, to: &str) -> Result<(), Denial> {
+    pub fn rename(&self, from: &str, to: &str) -> Result<(), Denial>
+        ensures denied { IfErr result (IsAbout (from.now ++ (codes " to " ++ to.now))) }
+    {
         self.between("rename", from, to, fs::rename(self.rt, from, to))
     }
 
     /// Gives a file a second name. Fails if something has that.
-    pub fn link(&self, from: &str, to: &str) -> Result<(), Denial> {
+    pub fn link(&self, from: &str, to: &str) -> Result<(), Denial>
+        ensures denied { IfErr result (IsAbout (from.now ++ (codes " to " ++ to.now))) }
+    {
         self.between("link", from, to, fs::hard_link(self.rt, from, to))
     }
 
@@ -90,8 +104,7 @@ impl<'a, R: Files + AllocGlobal> System<'a, R> {
         answer: io::Result<()>,
     ) -> Result<(), Denial>
         ensures done { IfOk result (λ value. answer ≡ Ok value) }
-        ensures denied { IfErr result (λ denial. IfSome denial.path (λ own.
-            string_bytes own ≡ from.now ++ (codes " to " ++ to.now))) }
+        ensures denied { IfErr result (IsAbout (from.now ++ (codes " to " ++ to.now))) }
     {
         if answer.is_ok() {
             return Ok(());
@@ -101,7 +114,9 @@ impl<'a, R: Files + AllocGlobal> System<'a, R> {
     }
 
     /// Removes a file.
-    pub fn unlink(&self, path: &str) -> Result<(), Denial> {
+    pub fn unlink(&self, path: &str) -> Result<(), Denial>
+        ensures denied { IfErr result (IsAbout path.now) }
+    {
         self.asked("unlink", path, fs::remove_file(self.rt, path))
     }
 }
