@@ -4,6 +4,7 @@ pub mod ExactListing
 pub mod FileFolder
 pub mod FlushPass
 pub mod Handles
+pub mod HostAnswers
 pub mod HostFile
 pub mod HostPaths
 pub mod Kept

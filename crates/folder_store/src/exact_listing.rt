@@ -1,7 +1,7 @@
 //! The names of a folder, listed exactly although others rename files in it meanwhile.
 
 ghost use Rattle.std.specs.{Prelude.{◌≡◌, ◌≢◌, pos}, Duration.as_nanos};
-ghost use Rattle.folder_store.specs.ExactListing.{IsExactListing, age_at, left_of};
+ghost use Rattle.folder_store.specs.{ExactListing.{IsExactListing, age_at, left_of}, HostAnswers.seconds_at};
 
 use crate::mail_folders::Sought;
 use mail_store::Asked;
@@ -43,13 +43,21 @@ pub struct ChangeTime {
     pub nanoseconds: i64,
 }
 
+/// The seconds of a time since 1970. One before that counts as one that never comes, another one for each second.
+fn seconds_of(seconds: i64) -> u64
+    ensures { result ≡ seconds_at seconds }
+{
+    match u64::try_from(seconds) {
+        Ok(seconds) => seconds,
+        Err(_) => u64::MAX - seconds.unsigned_abs(),
+    }
+}
+
 impl ChangeTime {
-    /// The time of change that the system reports for a folder. One before 1970 counts as one that never
-    /// comes, and is different for each second.
+    /// The time of change that the system reports for a folder.
     pub fn of(folder: &Metadata) -> ChangeTime {
-        let seconds = folder.ctime();
         ChangeTime {
-            seconds: u64::try_from(seconds).unwrap_or(u64::MAX - seconds.unsigned_abs()),
+            seconds: seconds_of(folder.ctime()),
             nanoseconds: folder.ctime_nsec(),
         }
     }

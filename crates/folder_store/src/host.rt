@@ -1,8 +1,9 @@
 //! Folders of a file system, over its single calls.
 
-ghost use Rattle.std.specs.Prelude.{◌≡◌};
+ghost use Rattle.std.specs.{IoError.error_kind, Prelude.◌≡◌};
 ghost use Rattle.folder_store.specs.{
   FileFolder.unknown_directory,
+  HostAnswers.refuses_links,
   HostPaths.{AreIn, AreInMaildir, folder_of},
   Kept.KeptHolds,
   Under.{directory_under, front_of},
@@ -315,7 +316,9 @@ impl<'a, R: Files + Clock + AllocGlobal + Clone + Drop> CallsFolder<'a, HostCall
 }
 
 /// Whether a file can't be given a second name although it may be given another one.
-fn has_no_links(fault: &Denial) -> bool {
+fn has_no_links(fault: &Denial) -> bool
+    ensures { result ≡ refuses_links (error_kind fault.now.error) }
+{
     matches!(
         fault.kind(),
         ErrorKind::PermissionDenied

@@ -1,6 +1,11 @@
 //! The machine's file system, call by call.
 
-ghost use Rattle.folder_store.specs.{Calls.{unknown_opened, unknown_tree}, FileFolder.empty_made};
+ghost use Rattle.std.specs.{Fs.metadata_len, Prelude.◌≡◌};
+ghost use Rattle.folder_store.specs.{
+  Calls.{unknown_opened, unknown_tree},
+  FileFolder.empty_made,
+  HostAnswers.IsKindOf,
+};
 
 use crate::calls::{Access, FileCalls, FileKind, FileStat, MadeHandle, OpenHandle};
 use crate::exact_listing::ChangeTime;
@@ -17,18 +22,27 @@ pub struct HostCalls<'a, R> {
     pub system: &'a System<'a, R>,
 }
 
+/// What it is that the system reports of.
+fn kind_of(found: &Metadata) -> FileKind
+    ensures { IsKindOf found.now result }
+{
+    if found.is_file() {
+        FileKind::File
+    } else if found.is_dir() {
+        FileKind::Folder
+    } else {
+        FileKind::Other
+    }
+}
+
 impl FileStat {
     /// What the system reports.
-    fn of(found: &Metadata) -> FileStat {
-        let kind = if found.is_file() {
-            FileKind::File
-        } else if found.is_dir() {
-            FileKind::Folder
-        } else {
-            FileKind::Other
-        };
+    fn of(found: &Metadata) -> FileStat
+        ensures kind { IsKindOf found.now result.kind }
+        ensures size { result.len ≡ metadata_len found.now }
+    {
         FileStat {
-            kind,
+            kind: kind_of(found),
             len: found.len(),
             links: found.nlink(),
             device: found.dev(),

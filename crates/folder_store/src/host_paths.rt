@@ -106,7 +106,9 @@ impl<'a> HostPaths<'a> {
     }
 
     /// Why the folder isn't used.
-    pub fn folder_refusal(&self, words: &str) -> Denial {
+    pub fn folder_refusal(&self, words: &str) -> Denial
+        ensures { IsAbsent result → ⊥ }
+    {
         match self.folder_path() {
             Ok(path) => Denial::because(self.alloc, path.as_str(), words),
             Err(denial) => denial,

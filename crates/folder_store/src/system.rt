@@ -1,7 +1,11 @@
 //! What the devices of the file system share: the parts of a path, and removing what killed runs left behind.
 
-ghost use Rattle.std.specs.{Prelude.{◌≡◌, ◌≢◌, Err, IfErr, IfOk, IsErrAnd, MatchOption, Ok}, IoError.error_kind};
-ghost use Rattle.folder_store.specs.HostPaths.{ArePartsOf};
+ghost use Rattle.std.specs.{
+  Fs.{IsFile, file_type},
+  IoError.error_kind,
+  Prelude.{◌≡◌, ◌≢◌, Err, IfErr, IfOk, IsErrAnd, IsTrue, MatchOption, Ok},
+};
+ghost use Rattle.folder_store.specs.{HostAnswers.TellsFlush, HostPaths.ArePartsOf};
 
 use crate::process_mark::is_marked;
 use std::fs::{Metadata, OpenFile};
@@ -21,17 +25,20 @@ const MOST_LINKS: u32 = 40;
 
 /// Flushes the names of a folder to the disk. False if the system flushes no folders, which is no
 /// fault.
-pub fn flush_folder<F: OpenFile>(folder: &OpenAt<F>) -> Result<bool, Denial> {
-    match folder.asked("fsync", folder.inner.sync_all()) {
-        Err(fault)
-            if matches!(
-                fault.kind(),
-                ErrorKind::InvalidInput | ErrorKind::Unsupported
-            ) => Ok(false),
-        answer => {
-            answer?;
-            Ok(true)
-        }
+fn flush_folder<F: OpenFile>(folder: &OpenAt<F>) -> Result<bool, Denial> {
+    are_flushed(folder.asked("fsync", folder.inner.sync_all()))
+}
+
+/// Whether names were flushed, by the system's answer.
+fn are_flushed(answer: Result<(), Denial>) -> Result<bool, Denial>
+    ensures { TellsFlush answer result }
+{
+    match answer {
+        Ok(()) => Ok(true),
+        Err(fault) => match fault.kind() {
+            ErrorKind::InvalidInput | ErrorKind::Unsupported => Ok(false),
+            _ => Err(fault),
+        },
     }
 }
 
@@ -78,7 +85,9 @@ fn target_of<R: Files + AllocGlobal>(system: &System<'_, R>, link: &str) -> Resu
 }
 
 /// Whether this is a regular file that was changed last so long ago that no run is writing it.
-fn is_left_behind(file: &Metadata, now: SystemTime) -> bool {
+fn is_left_behind(file: &Metadata, now: SystemTime) -> bool
+    ensures { IsTrue result → IsFile (file_type file.now) }
+{
     if !file.is_file() {
         return false;
     }

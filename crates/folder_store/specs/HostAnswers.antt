@@ -1,0 +1,43 @@
+-- What a device of the machine's file system makes of an answer of the system.
+use Rattle.std.specs.{
+  Prelude.{◌≡◌, ◌-◌, ℕ, ℤ, pos, negsuc, Bool, true, false, Result, Ok, Err},
+  Fs.{IsDir, IsFile, file_type},
+  IoError.error_kind,
+  declared.{
+    fs.attrs.Metadata.Metadata,
+    io.ErrorKind.{ErrorKind, TheVariants.{CrossesDevices, InvalidInput, PermissionDenied, TooManyLinks, Unsupported}},
+  },
+}
+use Rattle.system_calls.specs.declared.refusal.Denial.{Denial}
+use Rattle.folder_store.specs.declared.calls.FileKind.{FileKind, TheVariants.{File, Folder, Other}}
+
+-- what a path leads to, by what stat(2) reports
+abbrev pub IsKindOf : Metadata → FileKind → Type 0
+IsKindOf found File = IsFile (file_type found)
+IsKindOf found Folder = IsDir (file_type found)
+IsKindOf found Other = (IsFile (file_type found) → ⊥) × (IsDir (file_type found) → ⊥)
+
+-- the seconds of a time since 1970. One before that counts as one that never comes, another one for each second
+abbrev pub seconds_at : ℤ → ℕ
+seconds_at (pos seconds) = seconds
+seconds_at (negsuc before) = 18_446_744_073_709_551_614 - before
+
+-- EPERM, EOPNOTSUPP, EXDEV, EMLINK: a file can't be given a second name, and perhaps another one
+abbrev pub refuses_links : ErrorKind → Bool
+refuses_links PermissionDenied = true
+refuses_links Unsupported = true
+refuses_links CrossesDevices = true
+refuses_links TooManyLinks = true
+refuses_links _ = false
+
+-- EINVAL, EOPNOTSUPP: the system flushes no folders
+abbrev pub flushes_none : ErrorKind → Bool
+flushes_none InvalidInput = true
+flushes_none Unsupported = true
+flushes_none _ = false
+
+-- whether the names of a folder were flushed, by the answer to fsync(2)
+abbrev pub TellsFlush : {T : Type 0} → Result T Denial → Result Bool Denial → Type 0
+TellsFlush (Ok done) flushed = flushed ≡ Ok true
+TellsFlush (Err d) (Ok is) = (is ≡ false) × (flushes_none (error_kind d.error) ≡ true)
+TellsFlush (Err d) (Err e) = (e ≡ d) × (flushes_none (error_kind d.error) ≡ false)
