@@ -6,6 +6,7 @@ pub mod JudgedLine
 pub mod KeyReading
 pub mod KeyTable
 pub mod LineRules
+pub mod OtherKey
 pub mod RcMeaning
 pub mod RcText
 pub mod RowReading
