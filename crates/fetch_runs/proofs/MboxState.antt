@@ -39,7 +39,7 @@ use Rattle.fetch_session.specs.declared.fault.Why.TheVariants as why
 
 -- the file was only looked at
 pub same_looked : (old new : Stores) (fault : Fault) → RefusesAgain old fault new → new.mbox.content ≡ old.mbox.content
-same_looked old new _ (refusal, _, _, same) = by refusal same
+same_looked old new _ (refusal, _, (_, same)) = by refusal same
   where
     by : (refusal : StoreFault) → LeavesSame {T = Unit {0}} old.mbox (Err refusal) new.mbox → new.mbox.content ≡ old.mbox.content
     by Missing same = ap (λ (s : Stored). s.content) same

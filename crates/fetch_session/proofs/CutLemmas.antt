@@ -118,7 +118,7 @@ module _ (settings : Settings) (now : ℕ) (link : Link) (before : Keeping) (old
       by SeenRefused (_, (_, _, saves)) = omega (arith, file_count, saves.0)
       by NoMemory _ = tt
       by _ refuses = absurd refuses
-  by_store AsEntries less (inr (inr left)) = let (why, is, look, same) = left.refuses in by why is look same
+  by_store AsEntries less (inr (inr left)) = let (why, is, (look, same)) = left.refuses in by why is look same
     where
       by : (why : StoreFault) → IsStoreFault why cut.fault → RefusesLook old.store.mbox.content why
           → LeavesSame {T = Unit {0}} old.store.mbox (Err why) new.store.mbox → Causes AsEntries cut.fault
