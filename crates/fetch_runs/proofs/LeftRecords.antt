@@ -492,7 +492,8 @@ module _ (laws : Below) {D F : Type 0} (files : FileGhosts F) (device device' : 
       same_has : new ≡ c.does.mid.file → Has rows_then
       same_has same _ d =
           rw (
-            same_rows laws.one c.does.mid.file.content rows c.does.mid.rows (rw same at keeps) (
+            same_rows laws.one c.does.mid.file.content rows c.does.mid.rows
+                (subst (λ (o : Option (List ℕ)). KeepsRows o rows) (ap (λ (s : Stored). s.content) same) keeps) (
               None,
               laws.steady c.does.mid.file.content (none_open c.does.mid.rows) (c.does.went.saved c.prepared.saved),
             ),

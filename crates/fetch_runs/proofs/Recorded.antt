@@ -130,7 +130,8 @@ module _ (laws : Below) {D F : Type 0} (files : FileGhosts F) (was store : Store
   keeps_recorded durably = record {
     left = λ could then opened may stands. session_kept durably could then may (opened, stands);
     uncut = λ ended. elim (ended_way files was from session store f durably trusted ended) [
-      | inl un ↦ inl (same_rows laws.one new.content rows shown keeps (rw un.same stood))
+      | inl un ↦ inl (same_rows laws.one new.content rows shown keeps
+          (subst (λ (o : Option (List ℕ)). KeepsRows o shown) (sym (ap (λ (s : Stored). s.content) un.same)) stood))
       | inr safe ↦ inr (λ could then opened may stands id d. rw (by_safe safe could then may (opened, stands)) d)
     ];
   }
