@@ -24,7 +24,7 @@ NAME = re.compile(r"[A-Za-z_][A-Za-z0-9_]*")
 # Names of other programs and of what users have: nothing here has such a name.
 OTHERS = {"stunnel", "socat", "dovecot", "mutt", "fetchmail", "mpop", "Display", "BrokenUIDLPOP3Retriever", "killsize"}
 # The sources of the lines that report faults.
-TELLING = ("crates/getmail_setup/src/failure.rt", "crates/fetch_session/src/text.rt", "crates/rc_file/src/text.rt")
+TELLING = ("crates/getmail_setup/src/failure.rt", "crates/session_parts/src/text.rt", "crates/rc_file/src/text.rt")
 # Folders that a user, a build or an installation makes.
 MADE = ("~", "/", "bin/", "out/", "share/", "examples/demo/Maildir")
 

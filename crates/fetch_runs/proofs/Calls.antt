@@ -17,12 +17,12 @@ use Rattle.mail_store.specs.{
   Mboxrd.entry_of,
   Maildir.{Maildir, WereTaken},
 }
-use Rattle.fetch_session.specs.{
+use Rattle.session_parts.specs.{
   Account.digits_of,
   Laws.MboxSessions,
   Record.record_state,
   Session.{account_files, mbox_account_files},
-  declared.account.Store.TheVariants.{Maildir as InMaildir, Mboxrd as InMbox},
+  declared.work.Store.TheVariants.{Maildir as InMaildir, Mboxrd as InMbox},
 }
 use Rattle.fetch_runs.{
   specs.{Accounts.{AccountMail, files, message_ids, is_selected, without, texts_of, copies, selected, without_flags}, Steps.holds},

@@ -22,7 +22,7 @@ use Rattle.fetch_runs.{
   proofs.Lists.{filter-filter, all_both, all_passing, all_front, distinct_is, distinct_take, distinct_filter, ids_both, all_at, all_ids_at},
   proofs.Lists.{bytes_self, bytes_same, members, other_id},
 }
-use Rattle.fetch_session.specs.declared.report.Report.{Report}
+use Rattle.session_parts.specs.declared.report.Report.{Report}
 
 pub has_listed : {listing : List Item} (ms : List Message) → listing ≡ listing_of ms → (id : List ℕ)
     → has_item listing id ≡ has_id (message_ids ms) id

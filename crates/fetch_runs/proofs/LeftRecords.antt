@@ -17,11 +17,11 @@ use Rattle.fetch_record.specs.{
   RecordTorn.{IsPartOf, ends_at_zero},
   declared.seen.SeenFault.TheVariants.BadRow,
 }
-use Rattle.fetch_session.{
+use Rattle.session_parts.{
   specs.{Record.{Keeps, KeepsRows, Steady, record_state}, Laws.LeavesDurable, Store.RefusesText, Report.Reports},
   specs.Durable.{AreLeft, AreTrusted, DurableCarried, DurableCarries, IsRecordUntouched, Durably, LeavesFile, IsGrownAtMost, LeavesStore},
   specs.Durable.{LeavesMerged, DurableProceeds, DurableSession, UnlessQuiet, DurableUnready, IsSafeFile},
-  specs.declared.{account.Store.{Store, TheVariants.Maildir as InMaildir}, fault.Cut.Cut},
+  specs.declared.{work.Store.{Store, TheVariants.Maildir as InMaildir}, fault.Cut.Cut},
   specs.declared.report.{Outcome.{TheVariants.Ended}, Report.Report, Skips.Skips},
   specs.{CarryingOut.{Carried, Carries, tasks_ahead}, Readiness.{IsMerged, IsMergedAtMost, IsAnew, IsFileKept, Unready}},
   specs.{Scene.{Does, FileNotSaved, NoFile, Scene, Stops, Went, scene}, Target.{Target, AsFiles, in_maildir}},

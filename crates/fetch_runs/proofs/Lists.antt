@@ -19,7 +19,7 @@ use Rattle.fetch_record.{
   proofs.MergeLemmas.has_id-kept,
 }
 use Rattle.mail_store.specs.{FileName.{is_held, names_id, stem, stem_of}, Held.flags_of, Maildir.{AreReached, File, IsPart, Maildir}}
-use Rattle.fetch_session.specs.{Record.{Keeps, KeepsRows}, Target.none_held}
+use Rattle.session_parts.specs.{Record.{Keeps, KeepsRows}, Target.none_held}
 use Rattle.fetch_runs.specs.{Accounts.{copies, message_ids, texts_of}, Below.Below}
 
 pub filter-filter : {X : Type 0} (p q : X → Bool) (xs : List X) → filter p (filter q xs) ≡ filter (λ x. q x && p x) xs

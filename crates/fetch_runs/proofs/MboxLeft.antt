@@ -16,10 +16,10 @@ use Rattle.mail_store.{
   specs.declared.file.flat_file.FlatFile.Ghosts as FileGhosts,
   proofs.{DiskLemmas.{may_arrive, may_now}, SettlingLemmas.all_left},
 }
-use Rattle.fetch_session.specs.{
+use Rattle.session_parts.specs.{
   Durable.{IsCutLeft, IsEntryLeft, IsGrownAtMost, IsSafeFile, LeavesSettled, LeavesStore, DurableSession, DurableUnready},
   Mbox.intent_of,
-  declared.{fault.Cut.Cut, account.Store.TheVariants.Mboxrd as InMbox},
+  declared.{fault.Cut.Cut, work.Store.TheVariants.Mboxrd as InMbox},
   CarryingOut.tasks_ahead,
   Readiness.{IsAnew, IsMerged, IsMergedAtMost, merged_in},
   Record.{Keeps, Steady, record_state, with_open},

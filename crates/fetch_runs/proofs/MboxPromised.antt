@@ -25,7 +25,7 @@ use Rattle.fetch_runs.{
 use Rattle.fetch_record.specs.{Record.{Intent, marked, is_delivered, Row, has_row, marked_all}, RecordMeaning.FileStandsFor}
 use Rattle.pop3_wire.specs.World.{Message}
 use Rattle.fetch_rules.specs.Wanted.{none_odd}
-use Rattle.fetch_session.specs.{Target.none_held, declared.report.Outcome.TheVariants.Ended}
+use Rattle.session_parts.specs.{Target.none_held, declared.report.Outcome.TheVariants.Ended}
 
 -- ---- distinct lists of messages
 

@@ -8,7 +8,7 @@ use Rattle.std.{
 use Rattle.mail_terms.specs.Listing.{Item}
 use Rattle.rc_file.specs.declared.settings.Settings.{Settings}
 use Rattle.fetch_record.specs.Record.{Row, marked, RecordState, none_open, Intent}
-use Rattle.fetch_session.{
+use Rattle.session_parts.{
   specs.{Task.{Task, stores, rereads, Done, tasks_of, texts_in, done_texts}, CarryingOut.{Carried, tasks_ahead as tasks_for}},
   specs.{Target.{Stores, no_maildir, AsEntries, mail_in, closed_file, closed_rows_in}, Record.{Keeps, Steady, record_state, with_open}},
   specs.declared.fault.{Cut.Cut, Fault.{Fault, TheVariants.{SeenRefused, NoMemory, StoreRefused}}},
@@ -35,7 +35,7 @@ use Rattle.mail_store.specs.{
 }
 use Rattle.pop3_client.specs.{Conversation.Talked, Texts.body_text, Turns.retr}
 use mathlib.Core.Logic.{⊎_map}
-use Rattle.fetch_session.specs.declared.fault.Why.TheVariants as why
+use Rattle.session_parts.specs.declared.fault.Why.TheVariants as why
 
 -- the file was only looked at
 pub same_looked : (old new : Stores) (fault : Fault) → RefusesAgain old fault new → new.mbox.content ≡ old.mbox.content

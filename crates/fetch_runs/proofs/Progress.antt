@@ -18,7 +18,7 @@ use Rattle.mail_store.specs.{
   declared.{maildir.disk.MaildirDisk.Ghosts as DiskGhosts, file.flat_file.FlatFile.Ghosts as FileGhosts},
   Maildir.Maildir,
 }
-use Rattle.fetch_session.specs.declared.report.Outcome.{Outcome, TheVariants.{Ended, Cut}}
+use Rattle.session_parts.specs.declared.report.Outcome.{Outcome, TheVariants.{Ended, Cut}}
 use Rattle.fetch_runs.{
   specs.{Accounts.{is_selected}, Below.Below, Losses.{IsFileLeft, KeepsRecorded, ShowsAll}},
   proofs.Calls.entered_more,

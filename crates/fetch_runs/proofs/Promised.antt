@@ -30,7 +30,7 @@ use Rattle.fetch_runs.{
   proofs.Lists.{all_mapped, delivered_all, delivered_marked, delivered_merged, marks_stay},
   proofs.Safety.served_session,
 }
-use Rattle.fetch_session.specs.declared.report.Outcome.TheVariants.{Ended}
+use Rattle.session_parts.specs.declared.report.Outcome.TheVariants.{Ended}
 
 -- ---- held
 

@@ -5,10 +5,10 @@ use Rattle.std.{
   proofs.Math.Logic.⊎_map,
 }
 use Rattle.fetch_record.specs.{Record.{Intent, Row, RecordState, is_delivered, marked_all}, Intents.closed_rows}
-use Rattle.fetch_session.specs.{
+use Rattle.session_parts.specs.{
   Record.{Keeps, KeepsRows, record_state},
   Durable.{AreTrusted, DurableSession, DurableUnready, IsSafeFile, LeavesMerged},
-  declared.{account.Store.Store, fault.Cut.Cut, report.Report.Report},
+  declared.{work.Store.Store, fault.Cut.Cut, report.Report.Report},
   Readiness.{IsMerged, IsMergedAtMost, merged_in},
   Session.{SessionIn, keeping},
   Target.{AsEntries, AsFiles, Stores, Target, closed_rows_in, is_stored, mail_in, none_held},

@@ -32,7 +32,7 @@ use Rattle.pop3_wire.specs.{
   Place.at,
   Honest.{Grants, Replies, no_marks, Honest},
 }
-use Rattle.fetch_session.{specs.declared.report.{Outcome.TheVariants.Ended, Report.Report}, proofs.TextLemmas.text_whole}
+use Rattle.session_parts.{specs.declared.report.{Outcome.TheVariants.Ended, Report.Report}, proofs.TextLemmas.text_whole}
 
 -- ---- one message of an id
 

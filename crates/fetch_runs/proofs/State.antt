@@ -8,7 +8,7 @@ use Rattle.mail_terms.specs.Listing.{Item}
 use Rattle.rc_file.specs.declared.settings.Settings.{Settings}
 use Rattle.fetch_record.specs.Record.{Row, marked, none_open}
 use Rattle.mail_store.specs.{Maildir.{Maildir, File}, FileName.stem_of, FlatFile.Stored}
-use Rattle.fetch_session.{
+use Rattle.session_parts.{
   specs.{Task.{Task, stores, Done, files_in, files_of, file_from}, Target.{AsFiles, in_maildir, Target, Stores}, Record.KeepsRows},
   specs.declared.fault.{Cut.Cut, Fault.TheVariants.StoreRefused},
   specs.declared.report.{Outcome.TheVariants.Cut as WasCut, ReportLine.ReportLine, Report.Report},
@@ -27,7 +27,7 @@ use Rattle.fetch_runs.{
   proofs.Tasks.{tally_number, tally_none, mid_keeps, tally_all, tally_no_line, tally_spare, tally_old, tally_new, full_rows},
 }
 use mathlib.Core.Logic.{⊎_map}
-use Rattle.fetch_session.specs.declared.fault.Why.TheVariants as why
+use Rattle.session_parts.specs.declared.fault.Why.TheVariants as why
 
 -- ---- of a session
 

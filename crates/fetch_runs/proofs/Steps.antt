@@ -24,7 +24,7 @@ use Rattle.pop3_wire.specs.{
   Link.Link,
 }
 use Rattle.mail_store.specs.{FlatFile.Stored, Maildir.Maildir}
-use Rattle.fetch_session.specs.{
+use Rattle.session_parts.specs.{
   declared.report.{Outcome.TheVariants.Ended, Report.Report},
   Report.retrieved_in,
   Task.{Task, deletes, Done, report_lines},

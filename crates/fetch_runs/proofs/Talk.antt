@@ -22,7 +22,7 @@ use Rattle.mail_terms.{
 }
 use Rattle.rc_file.specs.{declared.settings.Settings.Settings, Settings.IsValid}
 use Rattle.mail_store.specs.{FileName.{is_held, is_odd}, FlatFile.Stored}
-use Rattle.fetch_session.specs.{
+use Rattle.session_parts.specs.{
   declared.{fault.{Cut.Cut, Fault.{Fault, TheVariants.Refused}}, report.{ReportLine.ReportLine, Skips.Skips, Report.Report}},
   declared.report.Outcome.TheVariants.Ended,
   Fault.fault_of,

@@ -14,7 +14,7 @@ use Rattle.fetch_record.specs.Record.{Row, is_delivered, is_of, has_row, with_de
 use Rattle.fetch_rules.specs.{Wanted.wanted, declared.plans.Step.Step, Plan.{fetches, is_for_odd, step_of}}
 use Rattle.mail_store.specs.{Maildir.Maildir, Held.flags_of, FileName.{is_held, is_odd}}
 use Rattle.pop3_client.specs.{Conversation.Talked, Turns.{quit, retr, IsGood}, Texts.body_text}
-use Rattle.fetch_session.specs.{
+use Rattle.session_parts.specs.{
   Task.{Task, says, stores, rereads, deletes, fetching, deleting, tasks_in, tasks_planned, Done, IsAnswered, turns_in, tasks_of, files_in},
   Task.{files_of, lines_in, report_lines, ids_ahead, task_in, ids_in, marked_ids},
   Target.{AsFiles, in_maildir, Target},
@@ -32,7 +32,7 @@ use Rattle.fetch_runs.{
   proofs.{Lists.{bytes_self, bytes_same, all_append, all_front, all_map, marks_stay}, Core.{IsNumbered, are_numbered}},
 }
 use mathlib.Core.Logic.{⊎_map}
-use Rattle.fetch_session.specs.CarryingOut as Session
+use Rattle.session_parts.specs.CarryingOut as Session
 
 -- the tasks of an account with a Maildir
 abbrev pub tasks_ahead : Settings → List ℕ → List Item → ℕ → Maildir → List Row → List Task

@@ -27,7 +27,7 @@ use Rattle.pop3_client.specs.{
 use Rattle.mail_terms.specs.Listing.{Item}
 use Rattle.rc_file.specs.declared.settings.Settings.{Settings}
 use Rattle.mail_store.specs.{FileName.stem_of, FlatFile.Stored}
-use Rattle.fetch_session.specs.{
+use Rattle.session_parts.specs.{
   declared.fault.{Cut.Cut, Fault.TheVariants.StoreRefused},
   declared.report.{ReportLine.ReportLine, Skips.Skips, Outcome.{Outcome, TheVariants.{Ended, Cut as WasCut}}, Report.Report},
   Task.{Task, stores, rereads, deletes, Done, tasks_of, says, skips, turns_in, turns_of, replies_of, IsAnswered, tasks_planned, task_in},
@@ -47,7 +47,7 @@ use Rattle.fetch_runs.{
 use Rattle.fetch_record.specs.Record.{Row}
 use Rattle.fetch_rules.specs.{Plan.step_of, declared.plans.Step.Step}
 use mathlib.Core.Logic.{⊎_map}
-use Rattle.fetch_session.specs.declared.fault.Why.TheVariants as why
+use Rattle.session_parts.specs.declared.fault.Why.TheVariants as why
 
 -- the joined listing; the tasks that were completed, whatever happened to the record's file; the task that
 -- was begun and not completed, if there is one; and the reply to that task, if its text may be stored

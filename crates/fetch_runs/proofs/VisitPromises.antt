@@ -5,7 +5,7 @@ use Rattle.mail_store.specs.declared.{
   maildir.disk.MaildirDisk.Ghosts as DiskGhosts,
   file.flat_file.FlatFile.Ghosts as FileGhosts,
 }
-use Rattle.fetch_session.specs.declared.account.Store.{Store, TheVariants.{Maildir as InMaildir, Mboxrd as InMbox}}
+use Rattle.session_parts.specs.declared.work.Store.{Store, TheVariants.{Maildir as InMaildir, Mboxrd as InMbox}}
 use Rattle.fetch_runs.specs.{
   Calls.{Called, CallsKeepPromises, MboxCallsKeepPromises},
   Headline.{Headline, MboxHeadline},

@@ -9,13 +9,12 @@ use Rattle.mail_store.specs.declared.{
   maildir.disk.MaildirDisk.Ghosts as DiskGhosts,
   file.flat_file.FlatFile.Ghosts as FileGhosts,
 }
-use Rattle.fetch_session.specs.{
+use Rattle.session_parts.specs.{
   Account.{Holding, IsSameAccount, digits_of},
   Target.kind_of,
-  declared.{account.Store.{Store, TheVariants.{Maildir as InMaildir, Mboxrd as InMbox}}, report.Report.Report},
-  declared.visits.Visit.Visit,
-  Visits.{AreMade, WasMade},
+  declared.{work.Store.{Store, TheVariants.{Maildir as InMaildir, Mboxrd as InMbox}}, report.Report.Report},
 }
+use Rattle.fetch_session.specs.{declared.visits.Visit.Visit, Visits.{AreMade, WasMade}}
 use Rattle.fetch_runs.specs.{
   Calls.{Called, CallsKeepPromises, MboxCallsKeepPromises, Shows, ShowsMbox, account_over},
   Promises.{Base, Call, ComesFor, Devices, HoldsEntries, Invariant, IsTextOf, Mail, State},

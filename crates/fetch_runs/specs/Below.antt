@@ -22,7 +22,7 @@ use Rattle.mail_store.specs.{
   Mboxrd.EntryAddsText,
   Settling.LeftoversAreSettled,
 }
-use Rattle.fetch_session.specs.Laws.{SessionsAreDurable, SessionsKeepFiles, SteadyFilesKeep, UnsavedFilesKeep}
+use Rattle.session_parts.specs.Laws.{SessionsAreDurable, SessionsKeepFiles, SteadyFilesKeep, UnsavedFilesKeep}
 
 pub record Below : Type 0 where
   -- names of files

@@ -13,12 +13,12 @@ use Rattle.mail_store.specs.{
   Maildir.{Maildir, WereTaken},
   declared.{file.flat_file.FlatFile.Ghosts as FileGhosts, maildir.disk.MaildirDisk.Ghosts as DiskGhosts},
 }
-use Rattle.fetch_session.specs.{
+use Rattle.session_parts.specs.{
   Account.{Holding, digits_of},
-  declared.account.Store.{Store, TheVariants.{Maildir as InMaildir, Mboxrd as InMbox}},
+  declared.work.Store.{Store, TheVariants.{Maildir as InMaildir, Mboxrd as InMbox}},
   Target.mail_in,
-  Visits.WasMade,
 }
+use Rattle.fetch_session.specs.Visits.{WasMade}
 use Rattle.fetch_runs.specs.{
   Accounts.{AccountMail, copies, files, message_ids},
   Sessions.{Served, MboxMail, entries_of},

@@ -16,7 +16,7 @@ use Rattle.pop3_client.specs.Turns.{Turn, asking, greeting, retr, IsGood}
 use Rattle.mail_terms.specs.Listing.{Item}
 use Rattle.fetch_record.specs.Record.{Row, merged}
 use Rattle.mail_store.specs.{FileName.is_odd, Held.flags_of}
-use Rattle.fetch_session.specs.{
+use Rattle.session_parts.specs.{
   Record.KeepsRows,
   declared.fault.{Fault.TheVariants.StoreRefused, Why.TheVariants.Refused},
   declared.report.{Outcome.{Outcome, TheVariants.{Ended, Cut}}, Report.Report},

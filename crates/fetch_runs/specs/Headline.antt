@@ -13,9 +13,9 @@ use Rattle.mail_store.specs.{
   Mboxrd.MboxFile,
   declared.{file.flat_file.FlatFile.Ghosts as FileGhosts, maildir.disk.MaildirDisk.Ghosts as DiskGhosts},
 }
-use Rattle.fetch_session.specs.{
+use Rattle.session_parts.specs.{
   Account.digits_of,
-  declared.account.Store.TheVariants.{Maildir as InMaildir, Mboxrd as InMbox},
+  declared.work.Store.TheVariants.{Maildir as InMaildir, Mboxrd as InMbox},
 }
 use Rattle.fetch_runs.specs.{
   Accounts.{AccountMail, copies, files, message_ids, selected, texts_of, without},

@@ -19,7 +19,7 @@ use Rattle.fetch_runs.specs.{
   Promises.{Devices, Mail, State, IsFront, Invariant},
   Sessions.MboxMail,
 }
-use Rattle.fetch_session.specs.{Target.mail_in, declared.report.Outcome.{Outcome, TheVariants.Ended}}
+use Rattle.session_parts.specs.{Target.mail_in, declared.report.Outcome.{Outcome, TheVariants.Ended}}
 
 -- a file of the message is there whose name is durable, or the message was taken away
 abbrev pub is_durable : Mail → State → List ℕ → Bool

@@ -11,10 +11,10 @@ use Rattle.mail_store.specs.{
   Durable.Disk,
   declared.{file.flat_file.FlatFile.Ghosts as FileGhosts, maildir.disk.MaildirDisk.Ghosts as DiskGhosts},
 }
-use Rattle.fetch_session.specs.{
+use Rattle.session_parts.specs.{
   Account.digits_of,
   declared.{
-    account.Store.TheVariants.{Maildir as InMaildir, Mboxrd as InMbox},
+    work.Store.TheVariants.{Maildir as InMaildir, Mboxrd as InMbox},
     report.Outcome.{Outcome, TheVariants.{Ended, Cut}},
   },
 }

@@ -17,7 +17,7 @@ use Rattle.mail_store.specs.{
   Mboxrd.entry_of,
   Settling.MayBeLeft,
 }
-use Rattle.fetch_session.specs.declared.report.{Outcome.TheVariants.Ended, Report.Report}
+use Rattle.session_parts.specs.declared.report.{Outcome.TheVariants.Ended, Report.Report}
 use Rattle.fetch_runs.specs.{
   Accounts.{AccountMail, copies, has_named, message_ids, without_flags},
   Sessions.{SendsOnly, is_retr, MboxMail, entries_of, entry_intent},

@@ -31,7 +31,7 @@ use Rattle.mail_store.specs.{
   Held.flags_of,
   Mboxrd.entry_of,
 }
-use Rattle.fetch_session.specs.{
+use Rattle.session_parts.specs.{
   declared.fault.{Fault.TheVariants.{StoreRefused, SeenRefused, NoMemory}, Why.TheVariants.Refused},
   declared.report.{Outcome.{Outcome, TheVariants.{Ended, Cut}}, Report.Report},
   Tail.{tail, turns_of_tail},

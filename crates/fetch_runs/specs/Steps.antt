@@ -18,7 +18,7 @@ use Rattle.mail_store.specs.{
   Maildir.{File, Maildir},
   Mboxrd.{MboxFile, entry_of},
 }
-use Rattle.fetch_session.specs.{
+use Rattle.session_parts.specs.{
   Record.{Keeps, KeepsRows},
   Session.{AccountFiles, MboxAccountFiles, SessionIn, keeps_entries, keeps_files},
   Target.{AsEntries, AsFiles, mail_in},

@@ -6,12 +6,11 @@ use Rattle.mail_store.specs.declared.{
   file.flat_file.FlatFile.Ghosts as FileGhosts,
   maildir.disk.MaildirDisk.Ghosts as DiskGhosts,
 }
-use Rattle.fetch_session.specs.{
+use Rattle.session_parts.specs.{
   Account.Holding,
-  declared.{account.Store.{Store, TheVariants.{Maildir as InMaildir, Mboxrd as InMbox}}, report.Report.Report},
-  declared.visits.Visit.Visit,
-  Visits.AreMade,
+  declared.{work.Store.{Store, TheVariants.{Maildir as InMaildir, Mboxrd as InMbox}}, report.Report.Report},
 }
+use Rattle.fetch_session.specs.{declared.visits.Visit.Visit, Visits.AreMade}
 use Rattle.fetch_runs.specs.{
   Calls.{ArePromised, AreMboxPromised, Called, Shows, ShowsMbox, account_over},
   Headline.{HoldMboxPrefixes, HoldPrefixes, HoldsAMboxPrefix, IsSound, World, selected_of},

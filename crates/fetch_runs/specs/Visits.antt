@@ -7,12 +7,11 @@ use Rattle.mail_store.specs.declared.{
   file.flat_file.FlatFile.Ghosts as FileGhosts,
   maildir.disk.MaildirDisk.Ghosts as DiskGhosts,
 }
-use Rattle.fetch_session.specs.{
+use Rattle.session_parts.specs.{
   Account.{Holding, digits_of},
-  declared.{account.Store.{Store, TheVariants.{Maildir as InMaildir, Mboxrd as InMbox}}, report.Report.Report},
-  declared.visits.Visit.Visit,
-  Visits.{AreMade, WasMade},
+  declared.{work.Store.{Store, TheVariants.{Maildir as InMaildir, Mboxrd as InMbox}}, report.Report.Report},
 }
+use Rattle.fetch_session.specs.{declared.visits.Visit.Visit, Visits.{AreMade, WasMade}}
 use Rattle.fetch_runs.specs.{
   Calls.{IsCall, Shows, ShowsMbox, account_over},
   Promises.{Base, Call, ComesFor, Devices, HoldsEntries, Invariant, IsTextOf, Mail, State},

@@ -8,11 +8,8 @@ use Rattle.mail_store.specs.declared.{
   maildir.disk.MaildirDisk.Ghosts as DiskGhosts,
   file.flat_file.FlatFile.Ghosts as FileGhosts,
 }
-use Rattle.fetch_session.specs.{
-  Account.Holding,
-  declared.{report.Report.Report, visits.Visit.Visit},
-  Visits.{AreMade, WasMade},
-}
+use Rattle.session_parts.specs.{Account.Holding, declared.report.Report.Report}
+use Rattle.fetch_session.specs.{declared.visits.Visit.Visit, Visits.{AreMade, WasMade}}
 
 module _ {W D F : Type 0} (link : WireGhosts W) (disk : DiskGhosts D) (file : FileGhosts F) where
   -- one more

@@ -6,11 +6,8 @@ use Rattle.mail_store.specs.declared.{
   file.flat_file.FlatFile.Ghosts as FileGhosts,
   maildir.disk.MaildirDisk.Ghosts as DiskGhosts,
 }
-use Rattle.fetch_session.specs.{
-  Account.{Holding, IsSameAccount},
-  Durable.RunsSession,
-  declared.{report.Report.Report, visits.Visit.Visit},
-}
+use Rattle.session_parts.specs.{Account.{Holding, IsSameAccount}, Durable.RunsSession, declared.report.Report.Report}
+use Rattle.fetch_session.specs.declared.visits.Visit.{Visit}
 
 -- what the contract of `session` says of each call: `promised_session` is such a call, and its contract says just this
 abbrev pub WasMade : {W D F : Type 0} → WireGhosts W → DiskGhosts D → FileGhosts F → ℕ → Holding D F → W → Report

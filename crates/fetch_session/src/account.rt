@@ -1,24 +1,15 @@
 //! The account that sessions are for.
 ghost use Rattle.std.specs.Prelude.{◌≡◌};
 ghost use Rattle.rc_file.specs.Settings.{IsValid};
-ghost use Rattle.fetch_session.specs.Target.{NoneBegun};
+ghost use Rattle.session_parts.specs.Target.{NoneBegun};
 
-use crate::work::{Ledger, Work};
 use fetch_rules::{Seen, Settings};
 use mail_store::{AccountId, FlatFile, MaildirDisk, account_id};
+use session_parts::{Ledger, Store, Work};
 use std::alloc::Global;
 use std::hash::BuildHasher;
 use std::marker::Model;
 use std::vec::Vec;
-
-/// Where texts are stored.
-#[derive(Drop)]
-pub enum Store<D, F> {
-    /// A Maildir: each text is a file of its own.
-    Maildir(D),
-    /// An mboxrd file: each text is an entry appended to it. Nobody else writes it meanwhile.
-    Mboxrd(F),
-}
 
 /// An account: its settings, its store and the file of its record.
 ///
@@ -34,7 +25,7 @@ impl<D: MaildirDisk, F: FlatFile, H: BuildHasher> Model for Account<D, F, H> {
     ghost use Rattle.std.specs.{Prelude.◌≡◌, String.string_bytes};
     ghost use Rattle.rc_file.specs.Settings.{IsValid};
     ghost use Rattle.mail_store.specs.FileName.{IsAccountText, account_text};
-    ghost use Rattle.fetch_session.specs.{Account.Holding, Target.NoneBegun};
+    ghost use Rattle.session_parts.specs.{Account.Holding, Target.NoneBegun};
 
     ghost Value = { Holding D F };
 

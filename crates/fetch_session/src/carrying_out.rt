@@ -2,27 +2,21 @@
 ghost use Rattle.std.specs.{Prelude.{◌≡◌, ◌≤◌, ◌*◌, length}, List.AllByRecursion};
 ghost use Rattle.mail_terms.specs.{Listing.message_limit, UniqueId.IsLegalId};
 ghost use Rattle.mail_store.specs.FileName.{IsAccountText};
-ghost use Rattle.fetch_session.specs.{
+ghost use Rattle.session_parts.specs.{
   Target.NoneBegun,
   Refusal.{TookWithTail, listed_limit},
   Hearing.{HearsOne, IsPlanFor},
-  Parts.{KeepsLink, KeepsStore, RunsListing},
+  Parts.{KeepsLink, KeepsStore},
   Report.{HasRoom, none_skipped},
 };
+ghost use Rattle.fetch_session.specs.Runs.{RunsListing};
 
-use crate::ending::end;
-use crate::fault::Cut;
-use crate::listener::Listener;
-use crate::readiness::{Ready, prepare};
-use crate::reasons::tell_plan;
-use crate::report::{Skips, skips_of};
 use crate::step::{Planned, do_steps};
-use crate::terms::Terms;
-use crate::work::Work;
 use fetch_rules::{Listing, only_firsts_are_fetched};
 use mail_store::{FlatFile, MaildirDisk};
 use pop3_client::{Client, turns_join};
 use pop3_wire::Wire;
+use session_parts::{Cut, Listener, Ready, Skips, Terms, Work, end, prepare, skips_of, tell_plan};
 use std::hash::BuildHasher;
 
 /// Makes the record ready for a listing, does what is planned for it, and quits. How many messages the

@@ -3,28 +3,26 @@ ghost use Rattle.std.specs.{Prelude.{◌≡◌, []}, Vec.vec_len};
 ghost use Rattle.pop3_client.specs.Client.{HasSameLink, link_of};
 ghost use Rattle.rc_file.specs.Settings.{IsValid};
 ghost use Rattle.mail_store.specs.FileName.{IsAccountText};
-ghost use Rattle.fetch_session.specs.{
+ghost use Rattle.session_parts.specs.{
   Account.IsSameAccount,
   Refusal.{IsWithinLimits, RefusesByOutcome, GotAtMost, session_limit, TookWithTail, listed_limit, parts_limit},
   Hearing.{HearsOne, IsListedBefore, IsPlanFor, IsPlanOf},
   Durable.RunsSession,
-  Parts.{KeepsLink, KeepsStore, RunsTillCut},
+  Parts.{KeepsLink, KeepsStore},
   Report.{most_lines, none_skipped},
   Target.NoneBegun,
 };
+ghost use Rattle.fetch_session.specs.Runs.{RunsTillCut};
 
 use crate::account::Account;
 use crate::carrying_out::carry_out;
-use crate::fault::Cut;
-use crate::listener::{Listener, Silent};
-use crate::opening::enter;
-use crate::report::{Outcome, Report, Skips, none_skipped, report_of};
-use crate::tail::leave;
-use crate::terms::Terms;
-use crate::work::Work;
 use mail_store::{FlatFile, MaildirDisk};
 use pop3_client::{Client, conversations_are_paced};
 use pop3_wire::{PIECE_ROOM, Wire};
+use session_parts::{
+    Cut, Listener, Outcome, Report, Silent, Skips, Terms, Work, enter, leave, none_skipped,
+    report_of,
+};
 use std::hash::BuildHasher;
 use std::mem;
 use std::vec::Vec;

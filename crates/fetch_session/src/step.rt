@@ -1,23 +1,19 @@
 //! What is done with each message.
 ghost use Rattle.std.specs.Prelude.{◌≡◌, ◌∷◌, ℕ, List, [], length};
 ghost use Rattle.fetch_rules.specs.Plan.{fetches};
-ghost use Rattle.fetch_session.specs.{
-  Parts.{RunsTasks, IsReadyFor, task_of},
+ghost use Rattle.session_parts.specs.{
+  Parts.{RunsTasks, IsReadyFor},
   Report.HasRoom,
   Task.{deleting, fetching, tasks_planned},
 };
+ghost use Rattle.fetch_session.specs.Runs.{task_of};
 
-use crate::account::Store;
-use crate::appending::take_into_mbox;
-use crate::fault::Cut;
-use crate::listener::Listener;
-use crate::report::{ReportLine, note};
 use crate::storing::{reread, take_into_maildir};
-use crate::work::Work;
 use fetch_rules::{Listing, Step};
 use mail_store::{AccountId, FlatFile, MaildirDisk};
 use pop3_client::{Client, conversations_are_paced, turns_join};
 use pop3_wire::Wire;
+use session_parts::{Cut, Listener, ReportLine, Store, Work, note, take_into_mbox};
 use std::hash::BuildHasher;
 
 /// What is done first with one message.

@@ -3,7 +3,7 @@ ghost use Rattle.std.specs.Prelude.{◌≡◌, ◌≢◌, ◌≤◌, ℕ, List, 
 ghost use Rattle.pop3_client.specs.{Client.{HasSameLink, CountsRefusals, link_of}, Turns.text_limit};
 ghost use Rattle.pop3_wire.specs.declared.unstuffer.Spot.TheVariants.{Done};
 ghost use Rattle.mail_store.specs.{FileName.{HasRoomForSize, sized}, Maildir.{AllNamed, IsThere}};
-ghost use Rattle.fetch_session.specs.{
+ghost use Rattle.session_parts.specs.{
   Parts.{IsReadyFor, IsReadyForNext, RunsTasks, over_maildir},
   Refusal.RefusesTillCut,
   Report.HasRoom,
@@ -11,10 +11,6 @@ ghost use Rattle.fetch_session.specs.{
   Task.{rereads, stores},
 };
 
-use crate::fault::{Cut, Fault, Why};
-use crate::record::remember;
-use crate::report::{ReportLine, note};
-use crate::work::{Ledger, Work};
 use fetch_rules::marked_keeps_rows;
 use mail_store::{
     AccountId, FlatFile, MaildirDisk, StoreFault, add_size, file_stem, one_more_is_held,
@@ -22,6 +18,7 @@ use mail_store::{
 };
 use pop3_client::{Client, ClientFault, conversations_are_paced};
 use pop3_wire::{BodyReader, PIECE_ROOM, Wire};
+use session_parts::{Cut, Fault, Ledger, ReportLine, Why, Work, note, remember};
 use std::hash::BuildHasher;
 use std::vec::Vec;
 

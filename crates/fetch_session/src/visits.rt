@@ -4,9 +4,9 @@ ghost use Rattle.fetch_session.specs.Visits.{AreMade, WasMade};
 
 use crate::account::Account;
 use crate::one_session::session;
-use crate::report::Report;
 use mail_store::{FlatFile, MaildirDisk};
 use pop3_wire::Wire;
+use session_parts::Report;
 use std::alloc::{AllocError, Global};
 use std::hash::BuildHasher;
 use std::vec::Vec;

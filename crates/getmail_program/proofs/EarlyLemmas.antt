@@ -2,7 +2,7 @@
 use Rattle.std.proofs.Common.{◌≡◌, ◌≢◌, ◌⊎◌, ◌∙◌, ℕ, List, [], ◌∷◌, ◌++◌, Option, false, refl, sym, ap, subst, append-nil, inl, inr}
 use Rattle.std.proofs.Common.{flat_map}
 use Rattle.fetch_rules.specs.declared.plans.Step.{Step}
-use Rattle.fetch_session.specs.{
+use Rattle.session_parts.specs.{
   Hearing.HearsOne,
   Report.is_deletion,
   declared.report.ReportLine.{ReportLine, TheVariants.{Delivered, Held, Skipped, Deleted}},

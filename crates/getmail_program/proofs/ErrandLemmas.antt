@@ -6,7 +6,7 @@ use Rattle.mail_store.specs.declared.{
   maildir.disk.MaildirDisk.Ghosts as DiskGhosts,
   file.flat_file.FlatFile.Ghosts as FileGhosts,
 }
-use Rattle.fetch_session.specs.Account.{Holding, IsSameAccount}
+use Rattle.session_parts.specs.Account.{Holding, IsSameAccount}
 use Rattle.getmail_setup.specs.declared.{errors.Errors.Errors, output.Output.Output}
 use Rattle.getmail_program.specs.{Fetching.FetchesInto, declared.{ending.Fetched.Fetched, told.Told.Told}}
 

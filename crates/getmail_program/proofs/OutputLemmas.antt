@@ -1,7 +1,7 @@
 -- What one write after another has written.
 use Rattle.std.proofs.Common.{◌≡◌, ◌≢◌, ◌∙◌, ℕ, Bool, List, [], None, Option, Some, ◌++◌, append-nil, append_assoc, codes, inl, inr, rules}
 use Rattle.rc_file.specs.declared.settings.Settings.{Settings}
-use Rattle.fetch_session.specs.{Text.fault_text, declared.{fault.Fault.Fault, report.Outcome.Outcome}}
+use Rattle.session_parts.specs.{Text.fault_text, declared.{fault.Fault.Fault, report.Outcome.Outcome}}
 use Rattle.getmail_setup.specs.{
   declared.{errors.Errors.Errors, output.{Output.Output, OutputRefusal.{OutputRefusal, TheVariants.NoMemory}}},
   Output.{Puts, number_text},

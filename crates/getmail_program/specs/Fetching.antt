@@ -12,10 +12,10 @@ use Rattle.mail_store.specs.declared.{
   file.flat_file.FlatFile.Ghosts as FileGhosts,
 }
 use Rattle.rc_file.specs.declared.settings.{Dest.Dest, Settings.Settings}
-use Rattle.fetch_session.specs.{
+use Rattle.session_parts.specs.{
   Account.{Holding, IsSameAccount},
   Hearing.IsPlanOf,
-  declared.{account.Store.Store, report.Report.Report},
+  declared.{work.Store.Store, report.Report.Report},
 }
 use Rattle.fetch_rules.specs.declared.plans.Step.{Step}
 use Rattle.getmail_setup.specs.{

@@ -8,7 +8,7 @@ use Rattle.std.specs.{
   String.string_bytes,
   declared.io.ErrorKind.TheVariants.{PermissionDenied, WouldBlock},
 }
-use Rattle.fetch_session.specs.declared.{
+use Rattle.session_parts.specs.declared.{
   fault.{Fault.{Fault, TheVariants.{StoreRefused, SeenRefused}}, Why.{Why, TheVariants.{Missing, Refused, NotMbox}}},
   report.Outcome.{Outcome, TheVariants.Cut},
 }

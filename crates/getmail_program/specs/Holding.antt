@@ -7,9 +7,9 @@ use Rattle.mail_store.specs.{
   Maildir.Maildir as InMaildir,
 }
 use Rattle.fetch_rules.specs.Plan.{fetches}
-use Rattle.fetch_session.specs.{
+use Rattle.session_parts.specs.{
   declared.{fault.Fault.{Fault, TheVariants.NoMemory}, message_preview.MessagePreview.MessagePreview},
-  declared.{preview.Preview.Preview, account.Store.Store, report.Outcome.TheVariants.{Ended, Cut}},
+  declared.{preview.Preview.Preview, work.Store.Store, report.Outcome.TheVariants.{Ended, Cut}},
   Durable.RunsSession,
   Account.{Holding, digits_of},
   Pretend.{Pretends, preview_told, told_nothing},

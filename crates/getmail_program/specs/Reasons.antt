@@ -6,7 +6,7 @@ use Rattle.std.specs.{
 }
 use Rattle.rc_file.specs.declared.settings.{Dest.{Dest, TheVariants.{Maildir, Mboxrd}}, Settings.Settings}
 use Rattle.pop3_wire.specs.declared.note.Asked.TheVariants.{Pass}
-use Rattle.fetch_session.specs.declared.{
+use Rattle.session_parts.specs.declared.{
   fault.Fault.Fault,
   fault.Fault.TheVariants.{ConnectionEnded, ReadFailed, WriteFailed, ReplyTooLong, BadReply, Refused, BadListing},
   fault.Fault.TheVariants.{ListingsDisagree, TooMany, TextTooLong, StoreRefused, SeenRefused, NoMemory, BadSeen},
@@ -15,7 +15,7 @@ use Rattle.fetch_session.specs.declared.{
 use Rattle.trace.specs.{Masking.begins, declared.talk.Said.Said}
 use Rattle.getmail_setup.specs.Places.{account_name, is_local}
 use Rattle.getmail_program.specs.declared.findings.Findings.{Findings}
-use Rattle.fetch_session.specs.declared.fault.Why.TheVariants as why
+use Rattle.session_parts.specs.declared.fault.Why.TheVariants as why
 
 -- the first text, unless it is empty
 abbrev pub or_else : List ℕ → List ℕ → List ℕ

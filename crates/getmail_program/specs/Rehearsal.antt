@@ -16,11 +16,11 @@ use Rattle.rc_file.specs.{
   Settings.{Content, content_of, maildir},
   declared.{flags.Flags.Flags, settings.Settings.Settings},
 }
-use Rattle.fetch_session.specs.{
+use Rattle.session_parts.specs.{
   Account.Holding,
   Durable.RunsSession,
   Text.outcome_number,
-  declared.{account.Store.Store, report.{Outcome.{Outcome, TheVariants.Ended}, Report.Report}},
+  declared.{work.Store.Store, report.{Outcome.{Outcome, TheVariants.Ended}, Report.Report}},
 }
 use Rattle.getmail_program.specs.Holding.{holding_of}
 

@@ -4,7 +4,7 @@ use Rattle.std.{
   proofs.{Common.{refl, sym, ap, ◌∙◌, append_assoc, append-nil, subst}, lemmas.Grind.flat_map-append},
 }
 use Rattle.rc_file.specs.declared.settings.Settings.{Settings}
-use Rattle.fetch_session.specs.{
+use Rattle.session_parts.specs.{
   Reasons.explained_line,
   Text.heading,
   Report.is_deletion,

@@ -4,7 +4,7 @@ use Rattle.std.specs.{
   Fmt.decimal,
 }
 use Rattle.rc_file.specs.declared.settings.Settings.{Settings}
-use Rattle.fetch_session.specs.{
+use Rattle.session_parts.specs.{
   declared.{
     fault.Fault.{Fault, TheVariants.{NoMemory as OutOfMemory}},
     report.{LeftOut.LeftOut, Outcome.{Outcome, TheVariants.{Ended, Cut}}, Report.Report},

@@ -1,6 +1,6 @@
 //! The devices of a run on a machine's files, and the time there.
 ghost use Rattle.std.specs.Prelude.{◌≡◌, IsSomeAnd, codes};
-ghost use Rattle.fetch_session.specs.Target.{NoneBegun, kind_of};
+ghost use Rattle.session_parts.specs.Target.{NoneBegun, kind_of};
 ghost use Rattle.folder_store.specs.HostPaths.{AreInMaildir, IsFileAt};
 ghost use Rattle.getmail_program.specs.{Devices.StoreIs, Holding.kind_in};
 

@@ -4,7 +4,7 @@ ghost use Rattle.std.specs.{
   String.string_bytes,
 };
 ghost use Rattle.rc_file.specs.Settings.{IsValid};
-ghost use Rattle.fetch_session.specs.{Account.IsSameAccount, Hearing.IsPlanOf, Target.kind_of};
+ghost use Rattle.session_parts.specs.{Account.IsSameAccount, Hearing.IsPlanOf, Target.kind_of};
 ghost use Rattle.getmail_setup.specs.{
   Clock.second_of,
   Failures.cause_line,

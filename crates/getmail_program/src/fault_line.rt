@@ -1,6 +1,6 @@
 //! The line of a fault.
 ghost use Rattle.std.specs.{Prelude.{◌≡◌, ◌++◌, IfOk, codes}, String.string_bytes};
-ghost use Rattle.fetch_session.specs.Text.{asked_text, fault_text};
+ghost use Rattle.session_parts.specs.Text.{asked_text, fault_text};
 ghost use Rattle.getmail_setup.specs.Output.{Puts, number_text};
 ghost use Rattle.getmail_program.specs.Telling.{told_fault_line};
 

@@ -3,7 +3,7 @@ ghost use Rattle.std.specs.{
   Prelude.{◌≡◌, ◌&&◌, ◌==◌, ℕ, false, not, true, List, [], IfOk},
   String.string_bytes,
 };
-ghost use Rattle.fetch_session.specs.Report.{is_deletion};
+ghost use Rattle.session_parts.specs.Report.{is_deletion};
 ghost use Rattle.getmail_program.specs.Teller.{HasLast, HasSameLinks, HearsPlans, StartsTelling, StaysClosed};
 ghost use Rattle.getmail_program.specs.Teller.{WroteText};
 ghost use Rattle.getmail_program.specs.Teller.{early_text, heard_both, heard_nothing};

@@ -1,6 +1,6 @@
 //! What a session says at its end.
 ghost use Rattle.std.specs.Prelude.{◌≡◌, [], true, if◌then◌else◌};
-ghost use Rattle.fetch_session.specs.{
+ghost use Rattle.session_parts.specs.{
   Account.IsSameAccount,
   Hearing.IsPlanOf,
   Reasons.told_report,

@@ -20,7 +20,7 @@ use Rattle.pop3_server.{
 }
 use Rattle.rc_file.specs.declared.settings.Settings.{Settings}
 use Rattle.mail_store.specs.FileName.{is_odd}
-use Rattle.fetch_session.specs.{Session.AccountFiles, declared.report.{Outcome.TheVariants.Ended, Report.Report}}
+use Rattle.session_parts.specs.{Session.AccountFiles, declared.report.{Outcome.TheVariants.Ended, Report.Report}}
 use Rattle.fetch_runs.{
   specs.{Accounts.{item_of, listing_of, message_ids}, Below.Below, Conversations.{SpeaksByPlan, step_commands}},
   specs.Sessions.IsGoodReply,

@@ -4,8 +4,8 @@ use Rattle.std.proofs.Common.{◌≡◌, ℕ, List, [], ◌∷◌, ◌++◌, Non
 use Rattle.mail_store.specs.declared.{maildir.disk.MaildirDisk.Ghosts as DiskGhosts, file.flat_file.FlatFile.Ghosts as FileGhosts}
 use Rattle.pop3_wire.specs.{declared.wire.Wire.Ghosts as WireGhosts}
 use Rattle.pop3_server.specs.{declared.maildrop.Maildrop.Ghosts as DropGhosts, LoopLink.Loop}
-use Rattle.fetch_session.specs.{
-  declared.account.Store.{Store, TheVariants.{Maildir as InMaildir, Mboxrd as InMbox}},
+use Rattle.session_parts.specs.{
+  declared.work.Store.{Store, TheVariants.{Maildir as InMaildir, Mboxrd as InMbox}},
   Target.{is_sound, mail_in},
 }
 use Rattle.fetch_runs.specs.{

@@ -11,7 +11,7 @@ use Rattle.mail_store.specs.{
 }
 use Rattle.pop3_wire.specs.{World.Message, declared.{command.Command.{Command, TheVariants.Dele}, wire.Wire.Ghosts as WireGhosts}}
 use Rattle.pop3_server.specs.{declared.maildrop.Maildrop.Ghosts as DropGhosts, LoopLink.Loop}
-use Rattle.fetch_session.specs.Account.{digits_of}
+use Rattle.session_parts.specs.Account.{digits_of}
 use Rattle.fetch_runs.{
   specs.{Accounts.{AccountMail, copies}, Promises.{Call, DeletesOneOf, FetchesWanted, IsSafe, Mail, MboxStarts, state_with}},
   specs.Calls.{Called, EmptyAccountsHold, with_left},

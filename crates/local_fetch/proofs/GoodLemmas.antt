@@ -32,7 +32,7 @@ use Rattle.pop3_server.specs.{
   Maildrop.{DropMail, there},
   ServerMachine.{Machine, greeting_line, is_open},
 }
-use Rattle.fetch_session.{
+use Rattle.session_parts.{
   proofs.ServedLemmas.reads_all,
   specs.{Cuts.{ArePlanned, Extends, refused_in}, Opening.{SessionOpened, opening}, CarryingOut.tasks_ahead, Readiness.merged_in},
   specs.{Served.{AreAnswered, GoodSessionsStoreAll}, Session.{Keeping, SessionIn, keeping}},

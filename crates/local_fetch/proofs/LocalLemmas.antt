@@ -23,8 +23,8 @@ use Rattle.mail_store.specs.{
   declared.{maildir.disk.MaildirDisk.Ghosts as DiskGhosts, file.flat_file.FlatFile.Ghosts as FileGhosts},
   FileName.is_odd,
 }
-use Rattle.fetch_session.specs.{
-  declared.account.Store.{Store, TheVariants.{Maildir as InMaildir, Mboxrd as InMbox}},
+use Rattle.session_parts.specs.{
+  declared.work.Store.{Store, TheVariants.{Maildir as InMaildir, Mboxrd as InMbox}},
   declared.report.{Outcome.{Outcome, TheVariants.{Ended, Cut as WasCut}}, Report.Report},
   Refusal.RefusesByOutcome,
   Target.{IsSoundMaildir, IsSoundMbox, is_sound},

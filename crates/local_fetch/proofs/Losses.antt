@@ -15,7 +15,7 @@ use Rattle.folder_store.{
   proofs.Files.find_here,
 }
 use Rattle.test_devices.specs.Losses.{FilesAreLost, MailIsLost}
-use Rattle.fetch_session.specs.Target.{mail_in}
+use Rattle.session_parts.specs.Target.{mail_in}
 use Rattle.fetch_runs.specs.{
   Accounts.AccountMail,
   Calls.{IsLeftByLoss, IsMboxLeftByLoss, Shows, ShowsMbox},

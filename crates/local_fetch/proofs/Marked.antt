@@ -23,7 +23,7 @@ use Rattle.fetch_rules.{
   proofs.PlanLemmas.{are_first, are_last},
 }
 use Rattle.mail_store.specs.FileName.{is_odd}
-use Rattle.fetch_session.specs.{Session.AccountFiles, declared.report.{Outcome.TheVariants.Ended, Report.Report}}
+use Rattle.session_parts.specs.{Session.AccountFiles, declared.report.{Outcome.TheVariants.Ended, Report.Report}}
 use Rattle.fetch_runs.{
   specs.{Accounts.listing_of, Below.Below, Conversations.{SpeaksByPlan, asked_if, plan_commands, step_commands}},
   specs.Sessions.{AreGood, IsGoodReply, IsListed},

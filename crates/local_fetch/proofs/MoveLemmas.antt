@@ -17,8 +17,8 @@ use Rattle.fetch_record.specs.Record.{is_delivered}
 use Rattle.pop3_wire.specs.{World.Message, declared.wire.Wire.Ghosts as WireGhosts}
 use Rattle.pop3_server.specs.{declared.maildrop.Maildrop.Ghosts as DropGhosts, LoopLink.{Loop, Serves}}
 use Rattle.fetch_rules.specs.Wanted.{fitting}
-use Rattle.fetch_session.specs.{
-  declared.account.Store.TheVariants.Maildir as InMaildir,
+use Rattle.session_parts.specs.{
+  declared.work.Store.TheVariants.Maildir as InMaildir,
   Account.digits_of,
   Session.{Session, account_files},
 }

@@ -15,10 +15,10 @@ use Rattle.pop3_server.specs.{declared.maildrop.Maildrop.Ghosts as DropGhosts, L
 use Rattle.rc_file.specs.declared.settings.Settings.{Settings}
 use Rattle.fetch_record.specs.{Record.empty, RecordFile.Two}
 use Rattle.fetch_rules.specs.Wanted.{at_most, is_within}
-use Rattle.fetch_session.specs.{
+use Rattle.session_parts.specs.{
   Account.digits_of,
   Record.FileReadAs,
-  declared.account.Store.TheVariants.{Maildir as InMaildir},
+  declared.work.Store.TheVariants.{Maildir as InMaildir},
 }
 use Rattle.fetch_runs.{specs.{Calls.account_over, Promises.may_fetch}, proofs.Lists.are_distinct}
 use Rattle.local_fetch.specs.{

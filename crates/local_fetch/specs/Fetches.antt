@@ -24,8 +24,8 @@ use Rattle.pop3_server.specs.{
   LoopLink.Loop,
 }
 use Rattle.rc_file.specs.declared.settings.Settings.{Settings}
-use Rattle.fetch_session.specs.{
-  declared.account.Store.{Store, TheVariants.{Maildir as InMaildir, Mboxrd as InMbox}},
+use Rattle.session_parts.specs.{
+  declared.work.Store.{Store, TheVariants.{Maildir as InMaildir, Mboxrd as InMbox}},
   declared.report.{Outcome.TheVariants.Ended, Report.Report},
   Account.digits_of,
   Target.{is_sound, mail_in},

@@ -23,8 +23,8 @@ use Rattle.pop3_server.specs.{
 use Rattle.fetch_record.specs.Record.{Loaded}
 use Rattle.fetch_rules.specs.Wanted.{is_within}
 use Rattle.fetch_runs.specs.{Accounts.copies, Calls.account_over, Promises.Devices}
-use Rattle.fetch_session.specs.{
-  declared.account.Store.TheVariants.{Maildir as InMaildir},
+use Rattle.session_parts.specs.{
+  declared.work.Store.TheVariants.{Maildir as InMaildir},
   declared.{fault.Fault.TheVariants.NoMemory, report.{Report.Report, Outcome.TheVariants.{Ended, Cut as WasCut}}},
   Account.{Holding, digits_of},
   Record.FileReadAs,

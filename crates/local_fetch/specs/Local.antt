@@ -16,7 +16,8 @@ use Rattle.pop3_server.specs.{
   ServerMachine.{Machine, greeting_line},
   LoopLink.Loop,
 }
-use Rattle.fetch_session.specs.{Account.Holding, declared.report.Report.Report, Target.is_sound, Visits.WasMade}
+use Rattle.session_parts.specs.{Account.Holding, declared.report.Report.Report, Target.is_sound}
+use Rattle.fetch_session.specs.Visits.{WasMade}
 
 -- a link that wasn't used yet
 abbrev pub unused : Link

@@ -7,7 +7,7 @@ use Rattle.mail_store.specs.{
   Maildir.{File, names_of},
 }
 use Rattle.fetch_record.specs.{Record.{Intent, Row}, RecordMeaning.FileStandsFor}
-use Rattle.fetch_session.specs.Target.{mail_in}
+use Rattle.session_parts.specs.Target.{mail_in}
 use Rattle.fetch_runs.specs.{
   Accounts.AccountMail,
   Calls.{IsLeftByLoss, IsMboxLeftByLoss, Shows, ShowsMbox},

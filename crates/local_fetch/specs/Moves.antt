@@ -7,8 +7,8 @@ use Rattle.mail_store.specs.{
 use Rattle.pop3_wire.specs.{World.Message, declared.wire.Wire.Ghosts as WireGhosts}
 use Rattle.mail_terms.specs.UniqueId.{has_id}
 use Rattle.pop3_server.specs.{declared.maildrop.Maildrop.Ghosts as DropGhosts, LoopLink.Loop}
-use Rattle.fetch_session.specs.{
-  declared.account.Store.TheVariants.Maildir as InMaildir,
+use Rattle.session_parts.specs.{
+  declared.work.Store.TheVariants.Maildir as InMaildir,
   declared.report.Outcome.TheVariants.Ended,
   Account.digits_of,
 }

@@ -5,16 +5,17 @@ use Rattle.mail_terms.specs.UniqueId.{IsLegalId}
 use Rattle.fetch_record.specs.Record.{has_row}
 use Rattle.fetch_rules.specs.{Plan.{IsQuiet, planned}, declared.plans.Step.Step}
 use Rattle.pop3_client.specs.{Turns.quit, declared.client.Client.Client}
-use Rattle.fetch_session.{
-  proofs.{TalkLemmas.err_is, HearingLemmas.{heard_as, heard_then}, ReadyLemmas.{flags_same, fresh_firsts, followed}},
-  proofs.{SessionLemmas.{named_ahead, carried, in_kind}, carrying_out.carry_out.Goals.{After-deref-3, After-do_steps, In_ok-do_steps}},
+use Rattle.session_parts.{
+  proofs.{TalkLemmas.err_is, ReadyLemmas.{flags_same, fresh_firsts, followed}},
+  proofs.SessionLemmas.{named_ahead, carried, in_kind},
   proofs.PartLemmas.{runs_before, goes_on, link_idle, link_less, link_on_tail, link_with_tail, most_planned, planned_all, store_less},
-  proofs.PartLemmas.store_on,
-  specs.{Target.{is_sound, stores_of}, Hearing.{HearsOne, IsPlanFor}, declared.{fault.Cut.Cut, work.Work.Work}},
-  specs.Task.{Task, says, tasks_planned},
+  proofs.{PartLemmas.store_on, HearingLemmas.{heard_as, heard_then}},
+  specs.{Target.{is_sound, stores_of}, declared.{fault.Cut.Cut, work.Work.Work}},
+  specs.{Task.{Task, says, tasks_planned}, Hearing.{HearsOne, IsPlanFor}},
   specs.{Report.{AddsLines, HasRoom, skips_of}, Refusal.{TookTillCut, step_limit}},
-  specs.Parts.{RunsListing, RunsTasks, IsReadyFor, KeepsLink, KeepsStore},
+  specs.Parts.{RunsTasks, IsReadyFor, KeepsLink, KeepsStore},
 }
+use Rattle.fetch_session.{proofs.carrying_out.carry_out.Goals.{After-deref-3, After-do_steps, In_ok-do_steps}, specs.Runs.RunsListing}
 use Rattle.fetch_session.proofs.carrying_out.carry_out.Goals as goal
 
 pub returns-in_err-ready-clause-carries : goal.returns-in_err-ready-clause-carries

@@ -1,10 +1,11 @@
 use Rattle.std.proofs.Common.{refl, rules, Ok, Err, arith, ◌∙◌, inl, inr}
-use Rattle.fetch_session.{
+use Rattle.session_parts.{
   specs.{Refusal.{TookTillCut, opening_limit}, Parts.KeepsLink, Target.target_of},
-  proofs.{TalkLemmas.{err_is, did_so, took_entering}, SceneLemmas.link_alone, one_session.proceed.Goals.In_ok-listing},
-  proofs.{HearingLemmas.heard_as, PartLemmas.{link_cut, link_on_tail, link_still, link_then_cut, link_with_tail}},
-  proofs.{ReadyLemmas.{followed, untaken}, SessionLemmas.{dealt, untouched}},
+  proofs.{TalkLemmas.{err_is, did_so, took_entering}, SceneLemmas.link_alone},
+  proofs.PartLemmas.{link_cut, link_on_tail, link_still, link_then_cut, link_with_tail},
+  proofs.{ReadyLemmas.{followed, untaken}, SessionLemmas.{dealt, untouched}, HearingLemmas.heard_as},
 }
+use Rattle.fetch_session.proofs.one_session.proceed.Goals.{In_ok-listing}
 use Rattle.pop3_wire.proofs.LinkLemmas.{in_words}
 use Rattle.pop3_client.specs.Client.{place_of}
 use Rattle.fetch_session.proofs.one_session.proceed.Goals as goal

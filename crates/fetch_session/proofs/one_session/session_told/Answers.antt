@@ -1,6 +1,6 @@
 use Rattle.std.proofs.Common.{ℕ, List, Ok, Err, refl, ap, ◌∙◌}
 use Rattle.pop3_client.specs.Client.{place_of}
-use Rattle.fetch_session.{
+use Rattle.session_parts.{
   specs.{Session.noted, Target.target_of},
   proofs.{TalkLemmas.{ended_within, left_alone, took_leaving, took_less}, ReadyLemmas.followed, SessionLemmas.left_session},
   proofs.HearingLemmas.heard_as,

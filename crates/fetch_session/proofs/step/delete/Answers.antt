@@ -1,7 +1,7 @@
 use Rattle.std.proofs.{Common.{◌∷◌, [], Ok, refl, arith}, lemmas.Bool.{not-false, not-true}}
 use Rattle.pop3_client.specs.Turns.{dele}
 use Rattle.pop3_wire.proofs.LinkLemmas.{in_words}
-use Rattle.fetch_session.{
+use Rattle.session_parts.{
   specs.{Task.deletes, Target.target_of},
   proofs.{TalkLemmas.{err_is, did_so, took_completing}, PartLemmas.{link_broke, runs_nothing, runs_talking}},
   proofs.TextLemmas.{taken_idle, text_broken},

@@ -3,11 +3,12 @@ use Rattle.std.proofs.{
   lemmas.List.{append-nil, drop_all},
 }
 use Rattle.fetch_rules.specs.declared.plans.Step.{Step}
-use Rattle.fetch_session.{
+use Rattle.session_parts.{
   proofs.{TalkLemmas.err_is, ReadyLemmas.{later_at, no_item, step_at, tasks_left}},
-  proofs.{PartLemmas.{runs_before, runs_nothing, goes_on, ready_front}, step.do_steps.Goals.{After-first_task-first, After-loop-i}},
-  specs.{Parts.{IsReadyFor, task_of}, Task.{Task, deleting, tasks_planned}},
+  proofs.PartLemmas.{runs_before, runs_nothing, goes_on, ready_front},
+  specs.{Parts.IsReadyFor, Task.{Task, deleting, tasks_planned}},
 }
+use Rattle.fetch_session.{proofs.step.do_steps.Goals.{After-first_task-first, After-loop-i}, specs.Runs.task_of}
 use Rattle.fetch_session.proofs.step.do_steps.Goals as goal
 
 pub loop-i-init : goal.loop-i-init

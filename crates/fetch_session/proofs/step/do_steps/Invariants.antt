@@ -1,5 +1,5 @@
 use Rattle.std.proofs.Common.{◌≡◌, ◌++◌, List, [], Ok, drop}
-use Rattle.fetch_session.specs.{Parts.RunsTasks, Task.{Task, tasks_planned}}
+use Rattle.session_parts.specs.{Parts.RunsTasks, Task.{Task, tasks_planned}}
 use Rattle.fetch_session.proofs.step.do_steps.Given as goal
 
 abbrev pub invariant-loop-i : goal.invariant-loop-i

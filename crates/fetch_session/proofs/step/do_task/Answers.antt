@@ -1,7 +1,6 @@
 use Rattle.std.proofs.Common.{◌∷◌, [], Ok, sym, subst, refl, arith}
-use Rattle.fetch_session.{
-  specs.{declared.account.Store.{Store, TheVariants.{Maildir, Mboxrd}}, Parts.{IsReadyFor, RunsTasks}, Target.target_of},
-  specs.Task.{stores, skips},
+use Rattle.session_parts.{
+  specs.{declared.work.Store.{Store, TheVariants.{Maildir, Mboxrd}}, Parts.{IsReadyFor, RunsTasks}, Target.target_of, Task.{stores, skips}},
   proofs.{PartLemmas.{link_still, runs_talking}, TextLemmas.taken_idle, TalkLemmas.talked_none},
 }
 use Rattle.fetch_session.proofs.step.do_task.Goals as goal

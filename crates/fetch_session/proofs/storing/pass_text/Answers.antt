@@ -1,6 +1,6 @@
 use Rattle.std.proofs.{Common.{◌≡◌, inl, inr, ◌<◌, ◌++◌, length, take, arith, sym, ◌∙◌, ap}, lemmas.Bool.false≢true}
 use Rattle.pop3_wire.proofs.LinkLemmas.{and_then}
-use Rattle.fetch_session.proofs.{TalkLemmas.err_is, TextLemmas.longer}
+use Rattle.session_parts.proofs.{TalkLemmas.err_is, TextLemmas.longer}
 use Rattle.fetch_session.proofs.storing.pass_text.Goals as goal
 
 pub returns-in_err-piece-clause-passes : goal.returns-in_err-piece-clause-passes

@@ -1,7 +1,7 @@
 use Rattle.std.proofs.Common.{◌∷◌, [], Ok, arith, refl, ◌∙◌}
 use Rattle.pop3_client.specs.Turns.{retr}
 use Rattle.pop3_wire.proofs.LinkLemmas.{in_words, and_then}
-use Rattle.fetch_session.{
+use Rattle.session_parts.{
   proofs.{TalkLemmas.{err_is, did_both, took_talked}, TextLemmas.{taken_idle, text_broken}, PartLemmas.{link_broke, runs_talking}},
   specs.{Target.target_of, Task.rereads},
 }

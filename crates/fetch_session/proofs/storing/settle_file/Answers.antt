@@ -1,6 +1,6 @@
 use Rattle.std.proofs.Common.{◌≡◌, rules, string_bytes}
 use Rattle.mail_store.specs.FileName.{sized}
-use Rattle.fetch_session.proofs.TextLemmas.{named_before}
+use Rattle.session_parts.proofs.TextLemmas.{named_before}
 use mathlib.Core.Logic.{⊎_map}
 use Rattle.fetch_session.proofs.storing.settle_file.Goals as goal
 

@@ -4,10 +4,11 @@ use Rattle.std.proofs.{
 }
 use Rattle.mail_store.specs.Maildir.{Maildir, maildir_refused, draft, dropped}
 use Rattle.pop3_wire.{specs.declared.unstuffer.Spot.TheVariants.Done, proofs.LinkLemmas.and_then}
-use Rattle.fetch_session.{
+use Rattle.session_parts.{
   specs.Store.{PutsBytes, begun_with},
-  proofs.{TextLemmas.{dropped_none_begun, settled, longer}, TalkLemmas.{before_cut, cut_by}, storing.store_text.Goals.After-put_piece},
+  proofs.{TextLemmas.{dropped_none_begun, settled, longer}, TalkLemmas.{before_cut, cut_by}},
 }
+use Rattle.fetch_session.proofs.storing.store_text.Goals.{After-put_piece}
 use Rattle.fetch_session.proofs.storing.store_text.Goals as goal
 
 pub returns-in-Err-clause-stores : goal.returns-in-Err-clause-stores

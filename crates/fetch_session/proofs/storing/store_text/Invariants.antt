@@ -2,7 +2,7 @@ use Rattle.std.proofs.Common.{◌≡◌, ◌≢◌, ◌≤◌, ◌+◌, ◌*◌,
 use Rattle.pop3_wire.specs.{Link.WhereSound, Place.Place, declared.unstuffer.Spot.TheVariants.Done}
 use Rattle.pop3_client.specs.{Client.{HasSameLink, place_of}, Turns.{retr, text_limit}, Texts.Fetching}
 use Rattle.mail_store.specs.Maildir.{draft}
-use Rattle.fetch_session.specs.Store.{begun_with}
+use Rattle.session_parts.specs.Store.{begun_with}
 use Rattle.fetch_session.proofs.storing.store_text.Given as goal
 
 abbrev pub invariant-pieces : goal.invariant-pieces

@@ -1,14 +1,14 @@
 use Rattle.std.proofs.Common.{rules, List, ℕ, Result, Ok, Err, inl, inr, arith, refl, subst, ◌∙◌, string_bytes}
 use Rattle.fetch_record.specs.Record.{none_open, marked}
-use Rattle.fetch_session.{
+use Rattle.session_parts.{
   specs.{Record.{AppendsRecord, record_state_in}, Durable.DurablySaves, declared.fault.Fault.Fault, Store.MayGain, Target.AsFiles},
   specs.{Refusal.TookTillCut, Parts.KeepsLink, Report.AddsLines},
   proofs.{SceneLemmas.{all_sound, link_alone}, SessionLemmas.same_left, RecordLemmas.durably_saves},
   proofs.TextLemmas.{named_more, stores_grows, text_broken, text_stops, text_stored, text_not_saved},
   proofs.TalkLemmas.{took_talked, takes_stopped, before_cut, err_is, did_both},
   proofs.PartLemmas.{filed, link_broke, link_idle, link_then_cut, marked_ledger, same_ledger},
-  proofs.storing.take_into_maildir.Goals.{After-note, After-remember, After-store_text, In_ok-length},
 }
+use Rattle.fetch_session.proofs.storing.take_into_maildir.Goals.{After-note, After-remember, After-store_text, In_ok-length}
 use Rattle.pop3_client.specs.{declared.fault.ClientFault.TheVariants.NoMemory, Client.link_of, Turns.{most, retr}}
 use Rattle.mail_store.specs.{Devices.{FileDid, known_file}, Maildir.IsThere, FileName.{sized, sized_file, stem_of}}
 use Rattle.pop3_wire.proofs.LinkLemmas.{and_then, in_words}

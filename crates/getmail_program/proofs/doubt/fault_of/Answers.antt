@@ -1,6 +1,6 @@
 use Rattle.std.proofs.Common.{[], refl, inl, inr}
 use Rattle.mail_store.specs.Maildir.{maildir_refused}
-use Rattle.fetch_session.specs.Target.{no_maildir}
+use Rattle.session_parts.specs.Target.{no_maildir}
 use Rattle.getmail_program.proofs.doubt.fault_of.Goals as goal
 
 pub returns-in-NotFound-clause-refuses : goal.returns-in-NotFound-clause-refuses

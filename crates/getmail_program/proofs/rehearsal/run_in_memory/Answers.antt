@@ -1,5 +1,5 @@
 use Rattle.std.proofs.Common.{refl}
-use Rattle.fetch_session.specs.declared.account.Store.TheVariants.{Maildir}
+use Rattle.session_parts.specs.declared.work.Store.TheVariants.{Maildir}
 use Rattle.getmail_program.proofs.rehearsal.run_in_memory.Goals as goal
 
 pub returns : goal.returns

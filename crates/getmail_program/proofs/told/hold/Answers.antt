@@ -1,5 +1,5 @@
 use Rattle.std.proofs.Common.{subst, sym, inl, inr, rules, ◌≡◌, ◌⊎◌, ◌∙◌, ap, Bool, true, false, List, [], if◌then◌else◌}
-use Rattle.fetch_session.specs.{Hearing.IsPlanOf, declared.report.Report.Report, Durable.RunsSession, Refusal.IsWithinLimits}
+use Rattle.session_parts.specs.{Hearing.IsPlanOf, declared.report.Report.Report, Durable.RunsSession, Refusal.IsWithinLimits}
 use Rattle.fetch_rules.specs.declared.plans.Step.{Step}
 use Rattle.getmail_program.proofs.EarlyLemmas.{early, early_or_whole, heard_of}
 use Rattle.getmail_program.proofs.told.hold.Goals as goal

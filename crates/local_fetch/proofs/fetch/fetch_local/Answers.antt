@@ -1,7 +1,7 @@
 use Rattle.mail_store.specs.Devices.{stored_in}
 use Rattle.std.proofs.Common.{ap}
 use Rattle.pop3_server.specs.LoopLink.{Loop}
-use Rattle.fetch_session.specs.{Account.digits_of, Session.{account_files, mbox_account_files}, Target.{maildir_of, mbox_of}}
+use Rattle.session_parts.specs.{Account.digits_of, Session.{account_files, mbox_account_files}, Target.{maildir_of, mbox_of}}
 use Rattle.local_fetch.proofs.LocalLemmas.{by_kind, fetches, mbox_fetches, few_refused}
 use Rattle.local_fetch.proofs.fetch.fetch_local.Goals as goal
 

@@ -1,5 +1,5 @@
 use Rattle.std.proofs.Common.{List, ℕ, [], ◌++◌, ◌∙◌, ap, refl, inl, inr}
-use Rattle.fetch_session.specs.Text.{heading}
+use Rattle.session_parts.specs.Text.{heading}
 use Rattle.getmail_program.proofs.teller.Teller.new.Goals as goal
 
 pub returns-clause-begins : goal.returns-clause-begins

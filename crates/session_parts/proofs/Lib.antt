@@ -1,0 +1,16 @@
+pub mod CutLemmas
+pub mod DurableLemmas
+pub mod EnteredLemmas
+pub mod EntrySeen
+pub mod MessagePreviewLemmas
+pub mod PartLemmas
+pub mod ReadyLemmas
+pub mod RecordLemmas
+pub mod SceneLemmas
+pub mod ServedLemmas
+pub mod SessionLemmas
+pub mod SettleLemmas
+pub mod TakenLemmas
+pub mod TalkLemmas
+pub mod TextLemmas
+pub mod HearingLemmas
