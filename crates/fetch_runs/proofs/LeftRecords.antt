@@ -494,9 +494,9 @@ module _ (laws : Below) {D F : Type 0} (files : FileGhosts F) (device device' : 
           rw (
             same_rows laws.one c.does.mid.file.content rows c.does.mid.rows
                 (subst (λ (o : Option (List ℕ)). KeepsRows o rows) (ap (λ (s : Stored). s.content) same) keeps) (
-              None,
-              laws.steady c.does.mid.file.content (none_open c.does.mid.rows) (c.does.went.saved c.prepared.saved),
-            ),
+                  None,
+                  laws.steady c.does.mid.file.content (none_open c.does.mid.rows) (c.does.went.saved c.prepared.saved),
+                ),
             c.does.went.rows,
           ) d
 

@@ -381,7 +381,7 @@ module _ (laws : Below) (D : Type 0) {F : Type 0} (files : FileGhosts F)
   anew_left rows {kept} (stale, _, _) saved same firm still left mbox may also then keeps =
       let now_is : Keeps new.file.content (none_open rows) =
       subst (λ (o : Option (List ℕ)). Keeps o (none_open rows)) (sym (ap (λ (s : Stored). s.content) same))
-          (laws.steady kept.content (none_open rows) saved) in
+      (laws.steady kept.content (none_open rows) saved) in
       let read = same_held laws.one _ then (none_open rows) (subst (λ o. Keeps o then) (record_left firm _ may) keeps) now_is in
       rw (read ∙ read_is refl (none_open rows) stale) (read_before _ (still mbox also))
 
@@ -479,7 +479,7 @@ module _ (laws : Below) (D : Type 0) {F : Type 0} (files : FileGhosts F)
         quiet same same_mbox =
             let kept : Keeps new.file.content (none_open c.does.mid.rows) =
             subst (λ (o : Option (List ℕ)). Keeps o (none_open c.does.mid.rows)) (sym (ap (λ (s : Stored). s.content) same))
-                (laws.steady c.does.mid.file.content (none_open c.does.mid.rows) (c.does.went.saved c.prepared.saved)) in
+            (laws.steady c.does.mid.file.content (none_open c.does.mid.rows) (c.does.went.saved c.prepared.saved)) in
             let seen = same_held laws.one new.file.content (none_open c.does.mid.rows) held' kept stands in
             rw (read ∙ seen, is ∙ sym (same_mbox ∙ mid_is)) (done', after)
 
