@@ -42,7 +42,7 @@ ASSUMED = """\
    them. It is printed without the words `sound self.new → sound self.old ×` before it. docs/STATEMENT.txt has the
    traits Wire, MaildirDisk and FlatFile with what their names mean, and 9 has the others. What can't be opened may
    come to the folders and go at any moment, so no clause says where such names (`closed_new`, `closed_cur`) come from.
-   Of CallsFolders it is assumed that a listing shows exactly those that are there then (`ListsIn`): a message whose name
+   Of CallsShared it is assumed that a listing shows exactly those that are there then (`ListsIn`): a message whose name
    is one isn't fetched. All that is above it is proved to tell just these."""
 PREMISES = """\
 2. The premises of the other devices. What their traits say is proved, for one over another device as far as that one
@@ -59,11 +59,13 @@ EXCUSES = {
     "FlushesNames": "the file system flushes no folders, which ends the premise",
     "FlushesNamesIn": "the file system flushes no folders, which ends the premise",
     "Creates": "the place where files are made isn't there",
+    "CreatesIn": "the place where files are made isn't there",
     "Makes": "the place where files are made isn't there",
     "WereTaken": "mail readers took files away",
     "Moved": "others moved, marked or took away files, or put what can't be opened beside them",
     "ToldAreOdd": "what can't be opened bears a name that is sought",
     "ShowsOdd": "what can't be opened bears a name that is sought",
+    "StatsFolder": "a folder didn't rest",
     "TellsRest": "a folder didn't rest",
     "Flushes": "a stem has no file any more",
     "FlushesFiles": "a stem has no file any more",
@@ -80,7 +82,7 @@ BELOW = Part("The other traits", """\
    the real files are made, of the folders over which the real Maildir is, and of a server's maildrop. Each name that
    docs/STATEMENT.txt doesn't have is explained before it is used.""",
              traits=("folder_store:MadeHandle", "folder_store:OpenHandle", "folder_store:FileCalls",
-                     "folder_store:NewFile", "folder_store:MailFolders", "pop3_server:Maildrop"))
+                     "folder_store:SharedCalls", "pop3_server:Maildrop"))
 
 
 class Function(NamedTuple):

@@ -1,6 +1,7 @@
 pub mod Files
 mod MailMoves
 mod MailCalls
+mod Sharing
 pub mod Kept
 pub mod Refusing
 pub mod Under

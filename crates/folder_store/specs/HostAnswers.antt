@@ -9,13 +9,17 @@ use Rattle.std.specs.{
   },
 }
 use Rattle.system_calls.specs.declared.refusal.Denial.{Denial}
-use Rattle.folder_store.specs.declared.calls.FileKind.{FileKind, TheVariants.{File, Folder, Other}}
+use Rattle.folder_store.specs.declared.calls.{FileStat.FileStat, FileKind.{FileKind, TheVariants.{File, Folder, Other}}}
 
 -- what a path leads to, by what stat(2) reports
 abbrev pub IsKindOf : Metadata → FileKind → Type 0
 IsKindOf found File = IsFile (file_type found)
 IsKindOf found Folder = IsDir (file_type found)
 IsKindOf found Other = (IsFile (file_type found) → ⊥) × (IsDir (file_type found) → ⊥)
+
+-- it is a folder
+abbrev pub IsFolder : FileStat → Type 0
+IsFolder stat = stat.kind ≡ Folder
 
 -- the seconds of a time since 1970. One before that counts as one that never comes, another one for each second
 abbrev pub seconds_at : ℤ → ℕ

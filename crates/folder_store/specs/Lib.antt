@@ -13,5 +13,6 @@ pub mod MailFolders
 pub mod MailPower
 pub mod NewDevices
 pub mod PowerLoss
+pub mod SharedCalls
 pub mod Under
 pub mod Watch

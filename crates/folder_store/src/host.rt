@@ -1,9 +1,9 @@
 //! Folders of a file system, over its single calls.
 
-ghost use Rattle.std.specs.{IoError.error_kind, Prelude.◌≡◌};
+ghost use Rattle.std.specs.Prelude.{◌≡◌};
 ghost use Rattle.folder_store.specs.{
+  Calls.IsAbsent,
   FileFolder.unknown_directory,
-  HostAnswers.refuses_links,
   HostPaths.{AreIn, AreInMaildir, folder_of},
   Kept.KeptHolds,
   Under.{directory_under, front_of},
@@ -18,7 +18,7 @@ use crate::host_paths::HostPaths;
 use crate::kept_file::{
     append_kept, cut_kept, flush_kept, flush_links, flush_names, make_marked, put_made, size_of,
 };
-use crate::new_file::{CallsNewFile, HostNewFile, answer_of};
+use crate::new_file::{CallsNewFile, answer_of};
 use crate::opened_file::{IRREGULAR, LEADS_NOWHERE, open_found, read_all, read_edges, read_piece};
 use crate::process_mark::ProcessMark;
 use crate::system::sweep;
@@ -120,18 +120,14 @@ impl<'a, R: Files + AllocGlobal> CallsFolder<'a, HostCalls<'a, R>> {
         self.calls.system.stat(self.paths.folder_path()?.as_str())
     }
 
-    // Whether something that is no file has a name.
-    pub(crate) fn is_taken_by_other(&self, name: &str) -> bool {
-        matches!(self.look_up(name), Ok(found) if !found.is_file())
+    // Makes a file to be put under a name.
+    pub(crate) fn create(&mut self, name: &str) -> Result<OpenAt<R::File>, Denial> {
+        make_marked(&mut self.calls, &self.paths, name)
     }
 
-    // Puts a file that was made under a name, if nothing has it. The file is given up else.
-    pub(crate) fn put_new(&mut self, file: HostNewFile<'a, R>, name: &str) -> Result<(), Denial> {
-        let answer = self.name_made(file.file.path.as_str(), name);
-        if answer.is_err() {
-            let _ = self.calls.system.unlink(file.file.path.as_str());
-        }
-        answer
+    // The path of a name.
+    pub(crate) fn path_of(&self, name: &str) -> Result<String, Denial> {
+        self.paths.path_of(name)
     }
 
     /// Whether there is a file of a name that has octets.
@@ -149,51 +145,22 @@ impl<'a, R: Files + AllocGlobal> CallsFolder<'a, HostCalls<'a, R>> {
     }
 
     // Why the folder isn't used.
-    pub(crate) fn folder_refusal(&self, words: &str) -> Denial {
+    pub(crate) fn folder_refusal(&self, words: &str) -> Denial
+        ensures { IsAbsent result → ⊥ }
+    {
         self.paths.folder_refusal(words)
     }
 
-    fn look_up(&self, name: &str) -> Result<Metadata, Denial> {
-        self.calls.system.lstat(self.paths.path_of(name)?.as_str())
-    }
-
-    // A second name is given at one step, and only if nothing has it. Some file systems have no second names: there the
-    // name is looked up, and what comes to it before the rename is replaced.
-    fn name_made(&self, path: &str, name: &str) -> Result<(), Denial> {
-        let to = self.paths.path_of(name)?;
-        match self.calls.system.link(path, to.as_str()) {
-            Ok(()) => {
-                let _ = self.calls.system.unlink(path);
-                Ok(())
-            }
-            Err(fault) if fault.kind() == ErrorKind::AlreadyExists => Err(self.taken(name)),
-            Err(fault) if has_no_links(&fault) => {
-                if self.is_taken(name)? {
-                    return Err(self.taken(name));
-                }
-                self.calls.system.rename(path, to.as_str())
-            }
-            Err(fault) => Err(fault),
-        }
-    }
-
-    // Why nothing is put under a name.
-    fn taken(&self, name: &str) -> Denial {
-        let words = if self.is_taken_by_other(name) {
-            IRREGULAR
-        } else {
-            "is there already"
-        };
+    // Why a file isn't used.
+    pub(crate) fn refusal(&self, name: &str, words: &str) -> Denial
+        ensures { IsAbsent result → ⊥ }
+    {
         self.paths.refusal(name, words)
     }
 
-    // Whether something has a name, be it a link that leads nowhere.
-    fn is_taken(&self, name: &str) -> Result<bool, Denial> {
-        match self.look_up(name) {
-            Ok(_) => Ok(true),
-            Err(fault) if fault.kind() == ErrorKind::NotFound => Ok(false),
-            Err(fault) => Err(fault),
-        }
+    // What a name itself is.
+    pub(crate) fn look_up(&self, name: &str) -> Result<Metadata, Denial> {
+        self.calls.system.lstat(self.paths.path_of(name)?.as_str())
     }
 
     // Opens a regular file, or one that a link leads to, if the name is still there. It is refused if the name
@@ -313,19 +280,6 @@ impl<'a, R: Files + Clock + AllocGlobal + Clone + Drop> CallsFolder<'a, HostCall
             wanted,
         )
     }
-}
-
-/// Whether a file can't be given a second name although it may be given another one.
-fn has_no_links(fault: &Denial) -> bool
-    ensures { result ≡ refuses_links (error_kind fault.now.error) }
-{
-    matches!(
-        fault.kind(),
-        ErrorKind::PermissionDenied
-            | ErrorKind::Unsupported
-            | ErrorKind::CrossesDevices
-            | ErrorKind::TooManyLinks
-    )
 }
 
 impl<'a, C: FileCalls> FolderState for CallsFolder<'a, C> {

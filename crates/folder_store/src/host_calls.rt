@@ -37,7 +37,7 @@ fn kind_of(found: &Metadata) -> FileKind
 
 impl FileStat {
     /// What the system reports.
-    fn of(found: &Metadata) -> FileStat
+    pub fn of(found: &Metadata) -> FileStat
         ensures kind { IsKindOf found.now result.kind }
         ensures size { result.len ≡ metadata_len found.now }
     {

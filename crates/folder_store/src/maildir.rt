@@ -81,8 +81,8 @@ impl<'a, R: Files + Clock + AllocGlobal + Clone + Drop> HostMaildir<'a, R> {
     /// `tmp`, `new` and `cur`; none of them is made.
     pub fn at(system: &'a System<'a, R>, path: &'a str, mark: ProcessMark) -> HostMaildir<'a, R>
         ensures state { ⟦<HostMaildir<'a, R> as MaildirDisk>⟧.maildir result ≡ unknown_maildir }
-        ensures in_new { AreInMaildir result.folders.new_folder.host.paths path.now (codes "new") }
-        ensures in_cur { AreInMaildir result.folders.cur_folder.host.paths path.now (codes "cur") }
+        ensures in_new { AreInMaildir result.folders.calls.new_folder.paths path.now (codes "new") }
+        ensures in_cur { AreInMaildir result.folders.calls.cur_folder.paths path.now (codes "cur") }
     {
         FolderMaildir::over(system.alloc(), CallsFolders::of_maildir(system, path, mark))
     }

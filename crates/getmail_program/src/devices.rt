@@ -32,8 +32,8 @@ impl<'a, R: Files + Clock + AllocGlobal + Clone + Drop> HostDevices<'a, R> {
     /// beside the record.
     pub fn store(&self, dest: &Dest, path: &'a str, rests: &'a str) -> MachineStore<'a, R>
         ensures made { StoreIs
-            (λ maildir. AreInMaildir maildir.folders.new_folder.host.paths path.now (codes "new")
-            × AreInMaildir maildir.folders.cur_folder.host.paths path.now (codes "cur"))
+            (λ maildir. AreInMaildir maildir.folders.calls.new_folder.paths path.now (codes "new")
+            × AreInMaildir maildir.folders.calls.cur_folder.paths path.now (codes "cur"))
             (λ mbox. IsFileAt mbox.folder.paths mbox.name.now path.now
             × IsSomeAnd mbox.cut_off (λ kept. IsFileAt kept.folder.paths kept.name.now rests.now)) result }
         ensures kind { kind_of result ≡ kind_in dest.now }

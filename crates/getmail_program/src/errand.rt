@@ -301,8 +301,8 @@ where
     ensures fetches { (told : Told)
         × (fetched : FetchesAt W.Wire ⟦<HostMaildir<'a, R> as MaildirDisk>⟧ ⟦<MachineFile<'a, R> as FlatFile>⟧
         (λ dest path rests store. (kind_of store ≡ kind_in dest) × StoreIs
-        (λ maildir. AreInMaildir maildir.folders.new_folder.host.paths path (codes "new")
-        × AreInMaildir maildir.folders.cur_folder.host.paths path (codes "cur"))
+        (λ maildir. AreInMaildir maildir.folders.calls.new_folder.paths path (codes "new")
+        × AreInMaildir maildir.folders.calls.cur_folder.paths path (codes "cur"))
         (λ mbox. IsFileAt mbox.folder.paths mbox.name.now path
         × IsSomeAnd mbox.cut_off (λ kept. IsFileAt kept.folder.paths kept.name.now rests)) store)
         (λ path file. IsFileAt file.folder.paths file.name.now path)

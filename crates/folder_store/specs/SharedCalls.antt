@@ -1,0 +1,107 @@
+-- What each single call does to the folders of a Maildir that others use too, for either outcome, as POSIX and Linux
+-- have it. Names are here those in a folder.
+use Rattle.std.specs.{
+  Prelude.{◌≡◌, ◌⊎◌, ◌==◌, ◌-◌, ◌<◌, ◌↔◌, ℕ, Bool, false, true, IsTrue, List, ◌++◌, Option, None, Some},
+  Prelude.{map, string_bytes, Result, Ok, Err, if◌then◌else◌},
+  Duration.as_nanos,
+  IoError.error_kind,
+  declared.time.Duration.Duration,
+}
+use Rattle.system_calls.specs.declared.refusal.Denial.{Denial}
+use Rattle.mail_terms.specs.UniqueId.{has_id}
+use Rattle.mail_store.specs.{
+  declared.maildir.disk.Folder.{Folder, TheVariants.{New, Cur}},
+  Maildir.is_there,
+}
+use Rattle.folder_store.specs.{
+  declared.{calls.FileStat.FileStat, exact_listing.ChangeTime.ChangeTime},
+  declared.mail_folders.{FoundNames.FoundNames, Sought.Sought},
+  declared.shared_calls.{ListedNames.ListedNames, Lead.{Lead, TheVariants.{File, Directory, Odd}}},
+  Calls.IsAbsent,
+  FileFolder.{MadeFile, empty_made},
+  HostAnswers.{IsFolder, refuses_links},
+  MailCalls.{ListsIn, PutsIntoNew, Then, file_names, odd_names},
+  MailFolders.{Directories, odd_names_in, rests_in, unknown_directories, unopened_in},
+}
+
+-- the folders, and the time of change that each had when it was last listed
+pub record Shared : Type 0 where
+  pub directories : Directories
+  pub new_listed : Option ChangeTime
+  pub cur_listed : Option ChangeTime
+
+abbrev pub listed_in : Folder → Shared → Option ChangeTime
+listed_in New s = s.new_listed
+listed_in Cur s = s.cur_listed
+
+abbrev pub with_listed : Folder → ChangeTime → Shared → Shared
+with_listed New change s = record s { new_listed = Some change }
+with_listed Cur change s = record s { cur_listed = Some change }
+
+-- others moved files, and then a call that lists no folder did this
+abbrev pub Did : (Directories → Directories → Type 0) → Shared → Shared → Type 0
+Did Does old new = (new ≡ record old { directories = new.directories }) × Then Does old.directories new.directories
+
+-- nothing was done
+abbrev pub IsSame : Directories → Directories → Type 0
+IsSame old new = new ≡ old
+
+-- stat(2) of a folder, and when it was last listed: it is there; it has rested since if its time of change is the same.
+-- ENOENT: it isn't there
+abbrev pub StatsFolder : Folder → Option ChangeTime → Result FileStat Denial → Directories → Directories → Type 0
+StatsFolder folder listed (Ok stat) old new = (new ≡ old)
+    × (IsFolder stat → is_there old.there folder ≡ true)
+    × (listed ≡ Some stat.change → rests_in folder old ≡ true)
+StatsFolder folder listed (Err d) old new = (new ≡ old) × (IsAbsent d → is_there old.there folder ≡ false)
+
+-- a listing of a folder, with the folder's time of change, after which each later change gives it another one
+abbrev pub ListsShared : Folder → Sought → Result ListedNames Denial → Shared → Shared → Type 0
+ListsShared folder sought (Ok listed) old new =
+    (new ≡ with_listed folder listed.change (record old { directories = new.directories }))
+    × Then (ListsIn folder sought (Ok listed.names)) old.directories new.directories
+ListsShared folder sought (Err d) old new =
+    Did (λ old new. (new ≡ old) × (IsAbsent d → is_there old.there folder ≡ false)) old new
+
+-- a name leads to what it was when its folder was listed: a file, a folder in `cur`, or what can't be opened
+abbrev pub IsLead : Lead → (unopened odd : Bool) → Type 0
+IsLead File unopened odd = (unopened ≡ false) × (odd ≡ false)
+IsLead Directory unopened odd = (unopened ≡ true) × (odd ≡ false)
+IsLead (Odd why) unopened odd = (unopened ≡ true) × (odd ≡ true)
+
+abbrev pub IsLeadOf : Directories → Folder → List ℕ → Lead → Type 0
+IsLeadOf d folder name lead = IsLead lead (has_id (unopened_in folder d) name) (has_id (odd_names_in folder d) name)
+
+-- open(2) with O_CREAT and O_EXCL in `tmp`: a file without bytes; ENOENT: `tmp` isn't there
+abbrev pub CreatesIn : {N : Type 0} → (N → MadeFile) → Bool → Result N Denial → Type 0
+CreatesIn made has_tmp (Ok file) = (has_tmp ≡ true) × (made file ≡ empty_made)
+CreatesIn made has_tmp (Err d) = IsAbsent d → has_tmp ≡ false
+
+-- link(2) of a file that was made to a name in `new`, where nothing has it. EPERM, EOPNOTSUPP, EXDEV, EMLINK: nothing
+-- was done; another refused call did it, or nothing
+abbrev pub Links : {T : Type 0} → MadeFile → List ℕ → Result T Denial → Directories → Directories → Type 0
+Links file name (Ok done) old new = PutsIntoNew file name old new
+Links file name (Err d) old new =
+    (new ≡ old) ⊎ ((refuses_links (error_kind d.error) ≡ false) × PutsIntoNew file name old new)
+
+-- ---- a system of which nothing is known
+
+abbrev pub unknown_shared : Shared
+unknown_shared = record { directories = unknown_directories; new_listed = None; cur_listed = None }
+
+-- ---- what a device does in several calls
+
+-- a device knows when its folders were last listed
+abbrev pub KnowsListed : Type 0 → Shared → (new cur : Option ChangeTime) → Type 0
+KnowsListed sound s new cur = sound → (s.new_listed ≡ new) × (s.cur_listed ≡ cur)
+
+-- of these names in a folder those of files were added, and those that what can't be opened bears
+abbrev pub AddsNames : Directories → Folder → List (List ℕ) → FoundNames → FoundNames → Type 0
+AddsNames d folder names old new =
+    (map string_bytes new.files.items ≡ map string_bytes old.files.items ++ file_names (unopened_in folder d) names)
+    × (map string_bytes new.odd.items ≡ map string_bytes old.odd.items ++ odd_names (odd_names_in folder d) names)
+
+-- whether the folders are listed again, by the clock, and when they were first seen to change. Not if the clock fails
+abbrev pub MayListAgain : Option Duration → ℕ → (old : Duration) → Bool → (new : Duration) → Type 0
+MayListAgain None times old may new = may ≡ false
+MayListAgain (Some now) times old may new = (new ≡ (if times == 0 then now else old))
+    × (IsTrue may ↔ as_nanos now - as_nanos new < 4_000_000_000)

@@ -1,0 +1,209 @@
+//! The machine's file system, call by call, as the folders of a Maildir ask it.
+
+ghost use Rattle.folder_store.specs.SharedCalls.{unknown_shared};
+
+use crate::calls::{FileCalls, FileStat};
+use crate::exact_listing::{ChangeTime, Wanted};
+use crate::flush_pass::{Found, unsettled};
+use crate::host::{CallsFolder, HostFolder};
+use crate::host_calls::HostCalls;
+use crate::mail_folders::Sought;
+use crate::shared_calls::{Lead, ListedNames, SharedCalls};
+use mail_store::{Folder, stem};
+use std::alloc::{AllocError, Global};
+use std::collections::BTreeSet;
+use std::rt::Files;
+use std::time::{Clock, Duration};
+use system_calls::{Denial, OpenAt, System};
+
+/// How many times files that are to be flushed are looked up while readers move them.
+const MOST_PASSES: u32 = 8;
+
+/// The two folders of a Maildir over single calls, and what was seen in them.
+#[derive(Drop)]
+pub struct CallsShared<'a, R, C: FileCalls> {
+    pub system: &'a System<'a, R>,
+    pub new_folder: CallsFolder<'a, C>,
+    pub cur_folder: CallsFolder<'a, C>,
+}
+
+/// The machine's file system, for the folders of a Maildir; files are made in `tmp`. Nothing is known of what it does.
+pub type HostShared<'a, R> = CallsShared<'a, R, HostCalls<'a, R>>;
+
+impl<'a, R: Files + Clock + AllocGlobal + Clone + Drop> CallsShared<'a, R, HostCalls<'a, R>> {
+    // Flushes the files with one of these stems, all of which are wanted, that both folders have at one moment. If
+    // `new` changed while they were listed, a reader may have moved one past the listing: then none counts as found.
+    fn sync_pass(&mut self, wanted: Wanted<'_>, stems: &[&str]) -> Result<Vec<Found>, Denial> {
+        let in_new = self.new_folder.read_names(wanted)?;
+        let in_cur = self.cur_folder.read_names(wanted)?;
+        let now = self.new_folder.look_at_folder()?;
+        if ChangeTime::of(&in_new.folder) != ChangeTime::of(&now) {
+            return Ok(Vec::new(self.system.alloc()));
+        }
+        self.sync_listed(in_new.names, in_cur.names, stems)
+    }
+
+    // Flushes those that have one of these stems among the files with these names in `new` and in `cur`.
+    fn sync_listed(
+        &mut self,
+        in_new: Vec<String>,
+        in_cur: Vec<String>,
+        stems: &[&str],
+    ) -> Result<Vec<Found>, Denial> {
+        let mut found = Vec::new(self.system.alloc());
+        let stems = set_of(self.system.alloc(), stems)?;
+        sync_named(&mut self.new_folder, in_new, &stems, &mut found)?;
+        sync_named(&mut self.cur_folder, in_cur, &stems, &mut found)?;
+        Ok(found)
+    }
+
+    // Flushes the files that have one of these stems. False, only if `may_miss`, if one of the stems has none, or
+    // readers move its files all the time.
+    fn sync_all_of(&mut self, stems: &[String], may_miss: bool) -> Result<bool, Denial>
+        ensures { result ≡ Ok false → may_miss ≡ true }
+    {
+        let mut left = texts_of(self.system.alloc(), stems)?;
+        for _ in 0..MOST_PASSES {
+            let found = self.sync_pass(Wanted::Stems(stems), &left)?;
+            left = unsettled(self.system.alloc(), &left, &found)?;
+            if left.is_empty() {
+                return Ok(true);
+            }
+        }
+        if may_miss {
+            return Ok(false);
+        }
+        Err(
+            self.new_folder
+                .folder_refusal("files to be flushed go away all the time"),
+        )
+    }
+
+    fn folder(&self, folder: Folder) -> &HostFolder<'a, R> {
+        match folder {
+            Folder::New => &self.new_folder,
+            Folder::Cur => &self.cur_folder,
+        }
+    }
+
+    fn folder_mut(&mut self, folder: Folder) -> &mut HostFolder<'a, R> {
+        match folder {
+            Folder::New => &mut self.new_folder,
+            Folder::Cur => &mut self.cur_folder,
+        }
+    }
+}
+
+fn texts_of(alloc: Global, texts: &[String]) -> Result<Vec<&str>, AllocError> {
+    let mut all = Vec::new(alloc);
+    for text in texts {
+        all.push(text.as_str())?;
+    }
+    Ok(all)
+}
+
+fn set_of<'b>(alloc: Global, texts: &[&'b str]) -> Result<BTreeSet<&'b str>, AllocError> {
+    let mut all = BTreeSet::new(alloc);
+    for text in texts {
+        all.insert(*text)?;
+    }
+    Ok(all)
+}
+
+/// Flushes those of a folder's files that have one of these stems. What can't be opened is none.
+fn sync_named<R: Files + AllocGlobal>(
+    host: &mut HostFolder<'_, R>,
+    names: Vec<String>,
+    stems: &BTreeSet<&str>,
+    found: &mut Vec<Found>,
+) -> Result<(), Denial> {
+    for name in names {
+        if stems.contains(stem(name.as_str())) {
+            if let Some(is_flushed) = host.sync_if_there(name.as_str())? {
+                found.push(Found { name, is_flushed })?;
+            }
+        }
+    }
+    Ok(())
+}
+
+impl<'a, R: Files + Clock + AllocGlobal + Clone + Drop> SharedCalls
+    for CallsShared<'a, R, HostCalls<'a, R>> {
+    type Made = OpenAt<R::File>;
+
+    ghost shared = { λ _. unknown_shared };
+
+    ghost was_free = { λ _ _. ⊥ };
+
+    // Of the file system nothing is known.
+    ghost sound = { λ _. ⊥ };
+
+    fn stat(&mut self, folder: Folder) -> Result<FileStat, Denial> {
+        Ok(FileStat::of(&self.folder(folder).look_at_folder()?))
+    }
+
+    fn list(&mut self, folder: Folder, sought: Sought<'_>) -> Result<ListedNames, Denial> {
+        let found = self.folder(folder).read_names(Wanted::of(sought))?;
+        Ok(ListedNames {
+            names: found.names,
+            change: ChangeTime::of(&found.folder),
+        })
+    }
+
+    fn look_at(&mut self, folder: Folder, name: &str) -> Result<Lead, Denial> {
+        let Some(why) = self.folder_mut(folder).obstruction(name)? else {
+            return Ok(Lead::File);
+        };
+        if folder == Folder::Cur && self.cur_folder.is_folder(name) {
+            return Ok(Lead::Directory);
+        }
+        Ok(Lead::Odd(why))
+    }
+
+    // A file that a reader moves meanwhile is looked up again.
+    fn flush_files(&mut self, stems: &[String], may_miss: bool) -> Result<bool, Denial> {
+        self.sync_all_of(stems, may_miss)
+    }
+
+    fn create(&mut self, name: &str) -> Result<OpenAt<R::File>, Denial> {
+        self.new_folder.create(name)
+    }
+
+    fn link(&mut self, file: &OpenAt<R::File>, name: &str) -> Result<(), Denial> {
+        let to = self.new_folder.path_of(name)?;
+        self.system.link(file.path.as_str(), to.as_str())
+    }
+
+    fn lstat(&mut self, name: &str) -> Result<FileStat, Denial> {
+        Ok(FileStat::of(&self.new_folder.look_up(name)?))
+    }
+
+    fn rename(&mut self, file: &OpenAt<R::File>, name: &str) -> Result<(), Denial> {
+        let to = self.new_folder.path_of(name)?;
+        self.system.rename(file.path.as_str(), to.as_str())
+    }
+
+    fn unlink(&mut self, file: &OpenAt<R::File>) -> Result<(), Denial> {
+        self.system.unlink(file.path.as_str())
+    }
+
+    fn flush_names(&mut self, folder: Folder) -> Result<bool, Denial> {
+        self.folder_mut(folder).sync_names()
+    }
+
+    fn now(&self) -> Option<Duration> {
+        self.system.rt.monotonic().ok()
+    }
+
+    fn is_other(&self, name: &str) -> bool {
+        matches!(self.new_folder.look_up(name), Ok(found) if !found.is_file())
+    }
+
+    fn refusal(&self, name: &str, words: &str) -> Denial {
+        self.new_folder.refusal(name, words)
+    }
+
+    fn folder_refusal(&self, folder: Folder, words: &str) -> Denial {
+        self.folder(folder).folder_refusal(words)
+    }
+}
