@@ -5,6 +5,7 @@ mod Sharing
 pub mod Kept
 pub mod Refusing
 pub mod Under
+pub mod Searching
 pub mod Reading
 pub mod Changing
 pub mod Folder

@@ -15,4 +15,5 @@ pub mod NewDevices
 pub mod PowerLoss
 pub mod SharedCalls
 pub mod Under
+pub mod Wanted
 pub mod Watch

@@ -10,7 +10,7 @@ ghost use Rattle.folder_store.specs.{
 };
 
 use crate::calls::{Access, FileCalls, FileKind, OpenHandle};
-use crate::exact_listing::{FolderNames, Wanted, list_names};
+use crate::exact_listing::{FolderNames, list_names};
 use crate::file_folder::{FileFolder, FolderState};
 use crate::handles::Handles;
 use crate::host_calls::HostCalls;
@@ -22,6 +22,7 @@ use crate::new_file::{CallsNewFile, answer_of};
 use crate::opened_file::{IRREGULAR, LEADS_NOWHERE, open_found, read_all, read_edges, read_piece};
 use crate::process_mark::ProcessMark;
 use crate::system::sweep;
+use crate::wanted::Wanted;
 use mail_store::{Edges, StoreFault};
 use std::alloc::{AllocError, Global};
 use std::fs::Metadata;

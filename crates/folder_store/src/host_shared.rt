@@ -3,12 +3,13 @@
 ghost use Rattle.folder_store.specs.SharedCalls.{unknown_shared};
 
 use crate::calls::{FileCalls, FileStat};
-use crate::exact_listing::{ChangeTime, Wanted};
+use crate::exact_listing::ChangeTime;
 use crate::flush_pass::{Found, unsettled};
 use crate::host::{CallsFolder, HostFolder};
 use crate::host_calls::HostCalls;
 use crate::mail_folders::Sought;
 use crate::shared_calls::{Lead, ListedNames, SharedCalls};
+use crate::wanted::Wanted;
 use mail_store::{Folder, stem};
 use std::alloc::{AllocError, Global};
 use std::collections::BTreeSet;

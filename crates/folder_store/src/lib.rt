@@ -27,6 +27,7 @@ mod shared_calls;
 mod shared_folders;
 mod system;
 mod tally;
+mod wanted;
 mod watch;
 
 pub use calls::{Access, FileCalls, FileKind, FileStat, MadeHandle, OpenHandle};
