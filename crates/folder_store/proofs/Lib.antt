@@ -1,4 +1,5 @@
 pub mod Files
+pub mod Marking
 mod MailMoves
 mod MailCalls
 mod Sharing

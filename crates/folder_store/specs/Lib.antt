@@ -11,6 +11,7 @@ pub mod Kept
 pub mod MailCalls
 pub mod MailFolders
 pub mod MailPower
+pub mod Marks
 pub mod NewDevices
 pub mod PowerLoss
 pub mod SharedCalls

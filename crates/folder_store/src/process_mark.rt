@@ -1,7 +1,11 @@
 //! The part of a file's name that no other process has at the time.
 
-ghost use Rattle.std.specs.Prelude.{◌≡◌, IfOk, string_bytes};
-ghost use Rattle.folder_store.specs.HostPaths.{with_process_mark};
+ghost use Rattle.std.specs.{List.list_all, Prelude.{◌≡◌, ◌↔◌, IfOk, IsTrue, replicate, string_bytes}};
+ghost use Rattle.mail_store.specs.FileName.{is_lower_hex_digit};
+ghost use Rattle.folder_store.specs.{
+  HostPaths.with_process_mark,
+  Marks.{AreMarkParts, IsLastPart, EndsInMark, IsProcessId, is_random},
+};
 
 use std::alloc::{AllocError, Global};
 use std::io;
@@ -29,7 +33,9 @@ impl ProcessMark {
     }
 
     /// That of no process, for folders in which nothing is made.
-    pub fn none() -> ProcessMark {
+    pub fn none() -> ProcessMark
+        ensures { result ≡ record { process = 0; random = replicate 8 0 } }
+    {
         ProcessMark {
             process: 0,
             random: [0; 8],
@@ -47,23 +53,62 @@ impl ProcessMark {
 }
 
 /// Whether a text is the id of a process.
-fn is_id(text: &str) -> bool {
-    text.bytes().all(|octet| octet.is_ascii_digit()) && text.parse::<u32>().is_ok()
+fn is_id(text: &str) -> bool
+    ensures { IsTrue result ↔ IsProcessId text.now }
+{
+    !text.starts_with('+') && text.parse::<u32>().is_ok()
+}
+
+/// Whether an octet is a lower-case hexadecimal digit.
+fn is_digit(octet: u8) -> bool
+    ensures { result ≡ is_lower_hex_digit octet }
+{
+    octet.is_ascii_digit() || (b'a'..=b'f').contains(&octet)
+}
+
+/// Whether all octets are.
+fn are_digits(octets: &[u8]) -> bool
+    ensures { result ≡ list_all is_lower_hex_digit octets.now }
+{
+    octets.iter().all(|octet| is_digit(*octet))
 }
 
 /// Whether a text is that of eight octets of random.
-fn is_random(text: &str) -> bool {
-    text.len() == 16
-        && text.bytes().all(|octet| octet.is_ascii_digit() || (b'a'..=b'f').contains(&octet))
+fn is_random(text: &str) -> bool
+    ensures { result ≡ is_random text.now }
+{
+    text.len() == 16 && are_digits(text.as_bytes())
+}
+
+/// What is after the last full stop of a name.
+fn last_part(name: &str) -> Option<&str>
+    ensures { IsLastPart name.now result }
+{
+    match name.rsplit_once('.') {
+        Some((_, part)) => Some(part),
+        None => None,
+    }
+}
+
+/// What is after `P` in a mark, and before and after the first `R` there.
+fn mark_parts(mark: &str) -> Option<(&str, &str)>
+    ensures { AreMarkParts mark.now result }
+{
+    match mark.strip_prefix('P') {
+        Some(rest) => rest.split_once('R'),
+        None => None,
+    }
 }
 
 /// Whether a name ends in the mark of a process, as `marked` writes it.
-pub fn is_marked(name: &str) -> bool {
-    let Some((_, mark)) = name.rsplit_once(".P") else {
+pub fn is_marked(name: &str) -> bool
+    ensures { IsTrue result ↔ EndsInMark name.now }
+{
+    let Some(mark) = last_part(name) else {
         return false;
     };
-    let Some((process, random)) = mark.split_once('R') else {
-        return false;
-    };
-    is_id(process) && is_random(random)
+    match mark_parts(mark) {
+        Some((id, random)) => is_id(id) && is_random(random),
+        None => false,
+    }
 }

@@ -3,11 +3,13 @@
 ghost use Rattle.std.specs.{
   Fs.{IsFile, file_type},
   IoError.error_kind,
-  Prelude.{◌≡◌, ◌≢◌, Err, IfErr, IfOk, IsErrAnd, IsTrue, MatchOption, Ok},
+  Path.path_join,
+  Prelude.{◌≡◌, ◌≢◌, ◌↔◌, Err, IfErr, IfOk, IsErrAnd, IsTrue, MatchOption, Ok, string_bytes},
 };
-ghost use Rattle.folder_store.specs.{HostAnswers.TellsFlush, HostPaths.ArePartsOf};
+ghost use Rattle.folder_store.specs.{HostAnswers.TellsFlush, HostPaths.ArePartsOf, Marks.IsOurs};
 
 use crate::process_mark::is_marked;
+use std::alloc::{AllocError, Global};
 use std::fs::{Metadata, OpenFile};
 use std::io::ErrorKind;
 use std::path::PathBuf;
@@ -79,9 +81,17 @@ pub fn flush_targets<R: Files + AllocGlobal>(
 /// The path that a link leads to, absolute or taken from the link's folder.
 fn target_of<R: Files + AllocGlobal>(system: &System<'_, R>, link: &str) -> Result<String, Denial> {
     let target = system.asked("readlink", link, fs::read_link(system.rt, link))?;
-    let mut path = PathBuf::from_str(system.alloc(), parts_of(link).0)?;
-    path.push(target.as_str())?;
-    Ok(path.into_string())
+    let path = joined(system.alloc(), parts_of(link).0, target.as_str())?;
+    Ok(path)
+}
+
+/// A path that is absolute or taken from a folder.
+fn joined(alloc: Global, folder: &str, path: &str) -> Result<String, AllocError>
+    ensures { IfOk result (λ whole. string_bytes whole ≡ path_join folder.now path.now) }
+{
+    let mut whole = PathBuf::from_str(alloc, folder)?;
+    whole.push(path)?;
+    Ok(whole.into_string())
 }
 
 /// Whether this is a regular file that was changed last so long ago that no run is writing it.
@@ -117,6 +127,13 @@ fn entry_in<T, R: AllocGlobal>(
     }
 }
 
+/// Whether a name begins so, and ends in the mark of a process.
+fn is_ours(name: &str, front: &str) -> bool
+    ensures { IsTrue result ↔ IsOurs front.now name.now }
+{
+    name.starts_with(front) && is_marked(name)
+}
+
 /// Removes the files of a folder whose names begin with `front` and end in the mark of a process, and
 /// that were left behind. One that can't be looked at or removed stays. No message that was delivered
 /// has such a name, so none is lost if the folder is a link to one of messages.
@@ -131,8 +148,7 @@ pub fn sweep<R: Files + Clock + AllocGlobal + Clone + Drop>(
         let Some(entry) = entry_in(system, folder, entry)? else {
             continue;
         };
-        let name = entry.file_name();
-        if !name.starts_with(front) || !is_marked(name) {
+        if !is_ours(entry.file_name(), front) {
             continue;
         }
         if let Ok(file) = system.lstat(entry.path().as_str()) {
