@@ -357,3 +357,10 @@ pub found_among : {Z : Type 0} (IsSo : PlacedFile → Stamp × ℕ → Type 0) (
     → All (ListsFound IsSo found) files
 found_among IsSo found s before t files is given all = subst (λ (every : List PlacedFile). All (ListsFound IsSo every) files)
     (sym (taken_front s before t given) ∙ is) (found_still IsSo before (into_iter_items t) files all)
+
+-- a limit that isn't reached
+pub room_left : (most n : ℕ) → (most ≤ n → false ≡ true) → n < most
+room_left most n never = elim (cases_lt n most) [
+  | inl below ↦ below
+  | inr past ↦ absurd (false≢true (never past))
+]

@@ -121,8 +121,7 @@ impl ListedFiles {
 
     /// Whether as many messages are listed as may be.
     pub fn is_full(&self) -> bool
-        ensures room { IsFalse result → vec_len self.now.files < MAX_COUNT }
-        ensures full { IsTrue result → MAX_COUNT ≤ vec_len self.now.files }
+        ensures { IsTrue result ↔ MAX_COUNT ≤ vec_len self.now.files }
     {
         self.files.len() >= MAX_COUNT
     }

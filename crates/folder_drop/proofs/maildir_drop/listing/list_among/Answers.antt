@@ -14,7 +14,7 @@ use Rattle.folder_drop.specs.{
   RealMaildir.listed_name,
 }
 use Rattle.folder_drop.proofs.MaildirLemmas.{LastIsOf, all_still, found_among, found_still, in_order_here, last_now, last_still}
-use Rattle.folder_drop.proofs.MaildirLemmas.{listed_long, measured_among, none_last, now_listed, passed_among, same_as_last}
+use Rattle.folder_drop.proofs.MaildirLemmas.{listed_long, measured_among, none_last, now_listed, passed_among, room_left, same_as_last}
 use Rattle.folder_drop.proofs.maildir_drop.listing.list_among.Goals as goal
 
 pub loop-file-init : goal.loop-file-init
@@ -73,7 +73,7 @@ loop-file-preserved-then-not-is_unseen g c =
 
 pub returns-then-is_full-clause-whole : goal.returns-then-is_full-clause-whole
 returns-then-is_full-clause-whole g c = λ k d fits.
-    let full = c.if-is_full.ensures.full refl in
+    let full = c.if-is_full.ensures.0 refl in
     let ok = c.loop-file.listed.files.ok in inr (inl (omega (arith, full, ok)))
 
 pub loop-file-preserved-in-None-2 : goal.loop-file-preserved-in-None-2
@@ -120,7 +120,7 @@ loop-file-preserved g c =
         is_key = subst (λ name. IsIdKey c.in_ok-long_id.long_id (id_of name)) (c.as_bytes.ensures.value ∙ named)
             c.in_ok-long_id.ensures;
         unseen = c.if-not-is_unseen.ensures.0 refl;
-      }) (c.if-is_full.ensures.room refl) small known.0,
+      }) (room_left _ _ c.if-is_full.ensures.1) small known.0,
       subst (λ (all : List ListedFile). LastIsOf all (before ++ file ∷ [])) (sym added) (last_now files new before file is_base),
       λ f there. known.2 f (c.measure.ensures.rest f there),
       subst (λ (all : List ListedFile). All (IsAccountedFor Passed all) (before ++ file ∷ [])) (sym added)
