@@ -5,11 +5,15 @@ use Rattle.std.specs.{
   IoError.error_kind,
   declared.{
     fs.attrs.Metadata.Metadata,
-    io.ErrorKind.{ErrorKind, TheVariants.{CrossesDevices, InvalidInput, PermissionDenied, TooManyLinks, Unsupported}},
+    io.ErrorKind.{ErrorKind, TheVariants.{CrossesDevices, FilesystemLoop, InvalidFilename, InvalidInput}},
+    io.ErrorKind.TheVariants.{NotADirectory, PermissionDenied, TooManyLinks, Unsupported},
   },
 }
 use Rattle.system_calls.specs.declared.refusal.Denial.{Denial}
-use Rattle.folder_store.specs.declared.calls.{FileStat.FileStat, FileKind.{FileKind, TheVariants.{File, Folder, Other}}}
+use Rattle.folder_store.specs.{
+  Calls.IsAbsent,
+  declared.calls.{FileStat.FileStat, FileKind.{FileKind, TheVariants.{File, Folder, Other}}},
+}
 
 -- what a path leads to, by what stat(2) reports
 abbrev pub IsKindOf : Metadata → FileKind → Type 0
@@ -33,6 +37,21 @@ refuses_links Unsupported = true
 refuses_links CrossesDevices = true
 refuses_links TooManyLinks = true
 refuses_links _ = false
+
+-- EACCES, ELOOP, ENOTDIR, or a name that no file can have: a file can't be opened because of what its name stands
+-- for, or of its rights
+abbrev pub tells_odd : ErrorKind → Bool
+tells_odd PermissionDenied = true
+tells_odd FilesystemLoop = true
+tells_odd NotADirectory = true
+tells_odd InvalidFilename = true
+tells_odd _ = false
+
+-- whether something is there, by the answer to a call for it: ENOENT says that nothing is
+abbrev pub TellsThere : {T : Type 0} → Result T Denial → Result Bool Denial → Type 0
+TellsThere (Ok found) there = there ≡ Ok true
+TellsThere (Err d) (Ok is) = (is ≡ false) × IsAbsent d
+TellsThere (Err d) (Err e) = (e ≡ d) × (IsAbsent d → ⊥)
 
 -- EINVAL, EOPNOTSUPP: the system flushes no folders
 abbrev pub flushes_none : ErrorKind → Bool

@@ -119,13 +119,10 @@ impl Sighting {
         system: &System<'_, R>,
         path: &str,
     ) -> Result<Duration, Denial> {
-        let rt = system.rt;
         // A clock of dates before 1970 is an error: then nothing is known of the age.
-        let age = match rt.since_1970() {
-            Ok(now) => self.change().age(now),
-            Err(_) => Duration::ZERO,
-        };
-        let now = system.asked("clock_gettime", path, rt.monotonic())?;
+        let since_1970 = system.rt.since_1970().unwrap_or(Duration::ZERO);
+        let age = self.change().age(since_1970);
+        let now = system.asked("clock_gettime", path, system.rt.monotonic())?;
         let watched = now.saturating_sub(self.at);
         Ok(left_of(self.change().step(), age, watched))
     }

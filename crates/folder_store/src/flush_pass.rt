@@ -2,7 +2,7 @@
 
 ghost use Rattle.std.specs.{Prelude.{◌≡◌, ℕ, List, ◌||◌, bytes_eq, not, IfOk, OnOk}, List.filter};
 ghost use Rattle.mail_store.specs.{FileName.stem, Held.has_text};
-ghost use Rattle.folder_store.specs.FlushPass.{has_flushed, has_missed, was_flushed};
+ghost use Rattle.folder_store.specs.{FlushPass.{has_flushed, has_missed, was_flushed}, Wanted.has_octets};
 
 use mail_store::stem;
 use std::alloc::{AllocError, Global};
@@ -16,12 +16,30 @@ pub struct Found {
     pub is_flushed: bool,
 }
 
+/// Adds a text.
+fn add_text<'a>(texts: &mut BTreeSet<&'a str>, text: &'a str) -> Result<(), AllocError>
+    ensures { OnOk result ((q : List ℕ) → has_text texts.new q ≡ (has_text texts.old q || bytes_eq q text.now)) }
+{
+    texts.insert(text)?;
+    Ok(())
+}
+
+/// These texts, as a set.
+pub fn set_of<'a>(alloc: Global, texts: &[&'a str]) -> Result<BTreeSet<&'a str>, AllocError>
+    ensures { IfOk result (λ set. (q : List ℕ) → has_text set q ≡ has_octets texts.now q) }
+{
+    let mut set = BTreeSet::new(alloc);
+    for text in texts {
+        add_text(&mut set, *text)?;
+    }
+    Ok(set)
+}
+
 /// Adds the stem of a name.
 fn add_stem<'a>(stems: &mut BTreeSet<&'a str>, name: &'a str) -> Result<(), AllocError>
     ensures { OnOk result ((q : List ℕ) → has_text stems.new q ≡ (has_text stems.old q || bytes_eq q (stem name.now))) }
 {
-    stems.insert(stem(name))?;
-    Ok(())
+    add_text(stems, stem(name))
 }
 
 /// Adds the stems of the files that were flushed, and of those that weren't.

@@ -1,9 +1,14 @@
 //! Folders of a file system, over its single calls.
 
-ghost use Rattle.std.specs.Prelude.{◌≡◌};
+ghost use Rattle.std.specs.{
+  IoError.error_kind,
+  Prelude.{◌≡◌, IfOk, IsSomeAnd, string_bytes},
+};
+ghost use Rattle.system_calls.specs.Line.{IsRefusalText};
 ghost use Rattle.folder_store.specs.{
   Calls.IsAbsent,
   FileFolder.unknown_directory,
+  HostAnswers.{TellsThere, tells_odd},
   HostPaths.{AreIn, AreInMaildir, folder_of},
   Kept.KeptHolds,
   Under.{directory_under, front_of},
@@ -112,7 +117,9 @@ impl<'a, R: Files + AllocGlobal> CallsFolder<'a, HostCalls<'a, R>> {
     }
 
     /// The allocator of what the folder returns.
-    pub fn alloc(&self) -> Global {
+    pub fn alloc(&self) -> Global
+        ensures { result ≡ self.now.paths.alloc }
+    {
         self.paths.alloc
     }
 
@@ -202,41 +209,22 @@ impl<'a, R: Files + AllocGlobal> CallsFolder<'a, HostCalls<'a, R>> {
 
     // Flushes the folders that hold what a link leads to. False if one of the links went away meanwhile.
     fn are_targets_synced(&mut self, name: &str) -> Result<bool, Denial> {
-        match flush_links(&self.calls, &self.paths, &mut self.handles, name) {
-            Err(fault) if fault.kind() == ErrorKind::NotFound => Ok(false),
-            answer => {
-                answer?;
-                Ok(true)
-            }
-        }
+        is_there(flush_links(&self.calls, &self.paths, &mut self.handles, name))
     }
 
     // The path of what has a name and can't be opened, and why; None if it can be, or has gone.
     pub(crate) fn obstruction(&mut self, name: &str) -> Result<Option<Vec<u8>>, Denial> {
-        let fault = match self.open_if_there(name) {
-            Ok(_file) => return Ok(None),
-            Err(fault) => fault,
-        };
-        if !self.is_odd(name, &fault) {
-            return Err(fault);
-        }
-        match fault.into_refusal() {
-            Some(refusal) => Ok(Some(refusal.text(self.paths.alloc)?)),
-            None => Err(Denial::from(AllocError)),
+        match self.open_if_there(name) {
+            Ok(_file) => Ok(None),
+            Err(fault) if self.is_odd(name, &fault) => Ok(Some(text_of(self.paths.alloc, fault)?)),
+            Err(fault) => Err(fault),
         }
     }
 
     // Whether a name can't be opened because of what it stands for, or of its rights. If it can't even be looked up,
     // that is because of the folder.
     fn is_odd(&self, name: &str, fault: &Denial) -> bool {
-        let may_be_odd = matches!(
-            fault.kind(),
-            ErrorKind::PermissionDenied
-                | ErrorKind::FilesystemLoop
-                | ErrorKind::NotADirectory
-                | ErrorKind::InvalidFilename
-        ) || fault.is_own();
-        may_be_odd && self.look_up(name).is_ok()
+        (tells_odd(fault) || fault.is_own()) && self.look_up(name).is_ok()
     }
 
     // Whether a name stands for a folder itself.
@@ -281,6 +269,42 @@ impl<'a, R: Files + Clock + AllocGlobal + Clone + Drop> CallsFolder<'a, HostCall
             wanted,
         )
     }
+}
+
+/// Whether something is there, by the answer to a call for it.
+fn is_there<T: Drop>(answer: Result<T, Denial>) -> Result<bool, Denial>
+    ensures { TellsThere answer result }
+{
+    match answer {
+        Ok(_found) => Ok(true),
+        Err(fault) => match fault.kind() {
+            ErrorKind::NotFound => Ok(false),
+            _ => Err(fault),
+        },
+    }
+}
+
+/// The path and the reason of a refused call.
+fn text_of(alloc: Global, fault: Denial) -> Result<Vec<u8>, Denial>
+    ensures { IfOk result (λ text. IsSomeAnd fault.path (λ path. IsRefusalText (string_bytes path) text.items)) }
+{
+    match fault.into_refusal() {
+        Some(refusal) => Ok(refusal.text(alloc)?),
+        None => Err(Denial::from(AllocError)),
+    }
+}
+
+/// Whether a file may not be opened because of what its name stands for, or of its rights.
+fn tells_odd(fault: &Denial) -> bool
+    ensures { result ≡ tells_odd (error_kind fault.now.error) }
+{
+    matches!(
+        fault.kind(),
+        ErrorKind::PermissionDenied
+            | ErrorKind::FilesystemLoop
+            | ErrorKind::NotADirectory
+            | ErrorKind::InvalidFilename
+    )
 }
 
 impl<'a, C: FileCalls> FolderState for CallsFolder<'a, C> {

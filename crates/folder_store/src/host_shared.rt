@@ -1,10 +1,11 @@
 //! The machine's file system, call by call, as the folders of a Maildir ask it.
 
+ghost use Rattle.std.specs.Prelude.{◌≡◌, IfOk, Ok, false, map, string_bytes, true};
 ghost use Rattle.folder_store.specs.SharedCalls.{unknown_shared};
 
 use crate::calls::{FileCalls, FileStat};
 use crate::exact_listing::ChangeTime;
-use crate::flush_pass::{Found, unsettled};
+use crate::flush_pass::{Found, set_of, unsettled};
 use crate::host::{CallsFolder, HostFolder};
 use crate::host_calls::HostCalls;
 use crate::mail_folders::Sought;
@@ -80,14 +81,20 @@ impl<'a, R: Files + Clock + AllocGlobal + Clone + Drop> CallsShared<'a, R, HostC
         )
     }
 
-    fn folder(&self, folder: Folder) -> &HostFolder<'a, R> {
+    fn folder(&self, folder: Folder) -> &HostFolder<'a, R>
+        ensures in_new { folder ≡ Folder.New → result.now ≡ self.now.new_folder }
+        ensures in_cur { folder ≡ Folder.Cur → result.now ≡ self.now.cur_folder }
+    {
         match folder {
             Folder::New => &self.new_folder,
             Folder::Cur => &self.cur_folder,
         }
     }
 
-    fn folder_mut(&mut self, folder: Folder) -> &mut HostFolder<'a, R> {
+    fn folder_mut(&mut self, folder: Folder) -> &mut HostFolder<'a, R>
+        ensures in_new { folder ≡ Folder.New → result.now ≡ self.old.new_folder }
+        ensures in_cur { folder ≡ Folder.Cur → result.now ≡ self.old.cur_folder }
+    {
         match folder {
             Folder::New => &mut self.new_folder,
             Folder::Cur => &mut self.cur_folder,
@@ -95,18 +102,12 @@ impl<'a, R: Files + Clock + AllocGlobal + Clone + Drop> CallsShared<'a, R, HostC
     }
 }
 
-fn texts_of(alloc: Global, texts: &[String]) -> Result<Vec<&str>, AllocError> {
+fn texts_of(alloc: Global, texts: &[String]) -> Result<Vec<&str>, AllocError>
+    ensures { IfOk result (λ all. map (λ text. text.now) all.items ≡ map string_bytes texts.now) }
+{
     let mut all = Vec::new(alloc);
     for text in texts {
         all.push(text.as_str())?;
-    }
-    Ok(all)
-}
-
-fn set_of<'b>(alloc: Global, texts: &[&'b str]) -> Result<BTreeSet<&'b str>, AllocError> {
-    let mut all = BTreeSet::new(alloc);
-    for text in texts {
-        all.insert(*text)?;
     }
     Ok(all)
 }

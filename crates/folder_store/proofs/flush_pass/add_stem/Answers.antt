@@ -1,8 +1,0 @@
-use Rattle.std.proofs.{Common.{sym, arith}, lemmas.{Cmp.nat_list_eq_equiv, Map.Text.is_eq-slice_cmp}}
-use Rattle.folder_store.proofs.flush_pass.add_stem.Goals as goal
-
-pub returns : goal.returns
-returns c = λ q.
-    let text = c.stem.result.now in
-    let added = c.in_ok-insert.ensures.updates.0 (record c.stem.result { now = q }) in
-    rw (sym c.stem.ensures, ← nat_list_eq_equiv.symm text q, ← is_eq-slice_cmp text q, added) (grind arith)
