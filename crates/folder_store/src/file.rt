@@ -1,10 +1,11 @@
 //! A file in a folder of a file system.
 
-ghost use Rattle.std.specs.Prelude.{◌≡◌, ◌<◌, IfNone, IfSome, IsSomeAnd, false};
+ghost use Rattle.std.specs.{Prelude.{◌≡◌, ◌<◌, IfNone, IfSome, IsSomeAnd, false}, Option.option_copied};
 ghost use Rattle.mail_terms.specs.FailureCount.{greatest_count};
 ghost use Rattle.mail_store.specs.{Devices.stored_in, DiskCalls.FlushesBoth};
 ghost use Rattle.folder_store.specs.{
   CutOff.has_others,
+  Handles.unflushed_path,
   HostFile.{FlushHolds, unknown_file},
   HostPaths.IsFileAt,
   NewDevices.{LeftFilesStand, NewFilesKeepBytes},
@@ -120,7 +121,9 @@ impl<'a, R: Files + AllocGlobal> HostFile<'a, HostFolder<'a, R>> {
 
     /// The path of a folder of the file whose names weren't flushed because the system flushes no folders, if
     /// there is one.
-    pub fn unflushed(&self) -> Option<String> {
+    pub fn unflushed(&self) -> Option<&str>
+        ensures { option_copied result ≡ unflushed_path self.now.folder.handles }
+    {
         self.folder.unflushed()
     }
 

@@ -2,12 +2,14 @@
 
 ghost use Rattle.std.specs.{
   IoError.error_kind,
+  Option.option_copied,
   Prelude.{◌≡◌, IfOk, IsSomeAnd, string_bytes},
 };
 ghost use Rattle.system_calls.specs.Line.{IsRefusalText};
 ghost use Rattle.folder_store.specs.{
   Calls.IsAbsent,
   FileFolder.unknown_directory,
+  Handles.unflushed_path,
   HostAnswers.{TellsThere, tells_odd},
   HostPaths.{AreIn, AreInMaildir, folder_of},
   Kept.KeptHolds,
@@ -148,8 +150,10 @@ impl<'a, R: Files + AllocGlobal> CallsFolder<'a, HostCalls<'a, R>> {
 
     /// The path of a folder whose names weren't flushed because the system flushes no folders, if there is one: of this
     /// one, or of one that holds what a link leads to.
-    pub fn unflushed(&self) -> Option<String> {
-        String::from_str(self.paths.alloc, self.handles.unflushed.as_ref()?.as_str()).ok()
+    pub fn unflushed(&self) -> Option<&str>
+        ensures { option_copied result ≡ unflushed_path self.now.handles }
+    {
+        self.handles.unflushed.as_deref()
     }
 
     // Why the folder isn't used.
@@ -294,7 +298,7 @@ fn text_of(alloc: Global, fault: Denial) -> Result<Vec<u8>, Denial>
     }
 }
 
-/// Whether a file may not be opened because of what its name stands for, or of its rights.
+/// Whether a file can't be opened because of what its name stands for, or of its rights.
 fn tells_odd(fault: &Denial) -> bool
     ensures { result ≡ tells_odd (error_kind fault.now.error) }
 {

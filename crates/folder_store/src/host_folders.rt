@@ -1,7 +1,12 @@
 //! The folders of a Maildir in a file system, over single calls.
 
-ghost use Rattle.std.specs.Prelude.{◌≡◌, codes};
-ghost use Rattle.folder_store.specs.{HostPaths.AreInMaildir, MailFolders.unknown_directories, SharedCalls.KnowsListed};
+ghost use Rattle.std.specs.{Option.{option_copied, option_or}, Prelude.{◌≡◌, codes}};
+ghost use Rattle.folder_store.specs.{
+  Handles.unflushed_path,
+  HostPaths.AreInMaildir,
+  MailFolders.unknown_directories,
+  SharedCalls.KnowsListed,
+};
 
 use crate::exact_listing::ChangeTime;
 use crate::host::CallsFolder;
@@ -107,7 +112,10 @@ impl<'a, R: Files + Clock + AllocGlobal + Clone + Drop> CallsFolders<
 
     /// The path of a folder whose names weren't flushed because the system flushes no folders, if there is
     /// one.
-    pub fn unflushed(&self) -> Option<String> {
+    pub fn unflushed(&self) -> Option<&str>
+        ensures { option_copied result ≡ option_or (unflushed_path self.now.calls.new_folder.handles)
+            (unflushed_path self.now.calls.cur_folder.handles) }
+    {
         match self.calls.new_folder.unflushed() {
             None => self.calls.cur_folder.unflushed(),
             path => path,

@@ -3,9 +3,11 @@
 ghost use Rattle.std.specs.{
   Prelude.{◌≡◌, ◌<◌, ◌+◌, [], IfSome, codes, map, option_map, string_bytes},
   List.list_any,
+  Option.{option_copied, option_or},
 };
 ghost use Rattle.mail_terms.specs.FailureCount.{greatest_count};
 ghost use Rattle.folder_store.specs.{
+  Handles.unflushed_path,
   HostPaths.AreInMaildir,
   MailFolders.{draft_begun, is_file_name, ends_name, maildir_in, unknown_maildir},
   NewDevices.{LeftMaildirsStay, LossesMayLeave, NewMaildirsKeepMail},
@@ -113,7 +115,10 @@ impl<'a, R: Files + Clock + AllocGlobal + Clone + Drop> HostMaildir<'a, R> {
 
     /// The path of a folder whose names weren't flushed because the system flushes no folders, if there is
     /// one.
-    pub fn unflushed(&self) -> Option<String> {
+    pub fn unflushed(&self) -> Option<&str>
+        ensures { option_copied result ≡ option_or (unflushed_path self.now.folders.calls.new_folder.handles)
+            (unflushed_path self.now.folders.calls.cur_folder.handles) }
+    {
         self.folders.unflushed()
     }
 }

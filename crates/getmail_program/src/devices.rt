@@ -1,7 +1,7 @@
 //! The devices of a run on a machine's files, and the time there.
-ghost use Rattle.std.specs.Prelude.{◌≡◌, IsSomeAnd, codes};
+ghost use Rattle.std.specs.{Prelude.{◌≡◌, [], IsSomeAnd, codes, false}, Option.{option_copied, option_or}};
 ghost use Rattle.session_parts.specs.Target.{NoneBegun, kind_of};
-ghost use Rattle.folder_store.specs.HostPaths.{AreInMaildir, IsFileAt};
+ghost use Rattle.folder_store.specs.{Handles.unflushed_path, HostPaths.{AreInMaildir, IsFileAt}};
 ghost use Rattle.getmail_program.specs.{Devices.StoreIs, Holding.kind_in};
 
 use fetch_rules::{Dest, Settings};
@@ -71,7 +71,10 @@ impl<'a, R: Files + Clock + AllocGlobal + Clone + Drop> HostDevices<'a, R> {
     }
 
     /// What bears the names of messages in a Maildir and can't be opened: the path of each, and why.
-    pub fn obstructions<'b>(&self, store: &'b MachineStore<'a, R>) -> &'b [Vec<u8>] {
+    pub fn obstructions<'b>(&self, store: &'b MachineStore<'a, R>) -> &'b [Vec<u8>]
+        ensures { StoreIs (λ maildir. result.now ≡ maildir.folders.obstructions.items) (λ _. result.now ≡ [])
+            store.now }
+    {
         match store {
             Store::Maildir(maildir) => maildir.obstructions(),
             Store::Mboxrd(_) => &[],
@@ -79,7 +82,9 @@ impl<'a, R: Files + Clock + AllocGlobal + Clone + Drop> HostDevices<'a, R> {
     }
 
     /// Whether a delivery into a Maildir was refused because something that is no file has its name.
-    pub fn is_name_taken(&self, store: &MachineStore<'a, R>) -> bool {
+    pub fn is_name_taken(&self, store: &MachineStore<'a, R>) -> bool
+        ensures { StoreIs (λ maildir. result ≡ maildir.folders.is_name_taken) (λ _. result ≡ false) store.now }
+    {
         match store {
             Store::Maildir(maildir) => maildir.is_name_taken(),
             Store::Mboxrd(_) => false,
@@ -87,11 +92,18 @@ impl<'a, R: Files + Clock + AllocGlobal + Clone + Drop> HostDevices<'a, R> {
     }
 
     /// The path of a folder whose names weren't flushed because the system flushes no folders, if there is one.
-    pub fn unflushed(
+    pub fn unflushed<'b>(
         &self,
-        store: &MachineStore<'a, R>,
-        seen_file: &MachineFile<'a, R>,
-    ) -> Option<String> {
+        store: &'b MachineStore<'a, R>,
+        seen_file: &'b MachineFile<'a, R>,
+    ) -> Option<&'b str>
+        ensures { StoreIs
+            (λ maildir. option_copied result ≡ option_or
+            (option_or (unflushed_path maildir.folders.calls.new_folder.handles)
+            (unflushed_path maildir.folders.calls.cur_folder.handles)) (unflushed_path seen_file.now.folder.handles))
+            (λ mbox. option_copied result ≡ option_or (unflushed_path mbox.folder.handles)
+            (unflushed_path seen_file.now.folder.handles)) store.now }
+    {
         let in_store = match store {
             Store::Maildir(maildir) => maildir.unflushed(),
             Store::Mboxrd(mbox) => mbox.unflushed(),

@@ -1,7 +1,7 @@
 //! A run over devices that are made for it.
 ghost use Rattle.std.specs.{
+  Option.option_copied,
   Prelude.{◌≡◌, ◌≤◌, ◌==◌, ◌&&◌, ℕ, IsSomeAnd, List, Some, codes, is_some, not, option_map},
-  String.string_bytes,
 };
 ghost use Rattle.rc_file.specs.Settings.{IsValid};
 ghost use Rattle.session_parts.specs.{Account.IsSameAccount, Hearing.IsPlanOf, Target.kind_of};
@@ -128,12 +128,12 @@ fn tell_store_refusal<N: Notices>(settings: &Settings, reason: Option<Vec<u8>>, 
 
 /// Tells of a folder whose names weren't flushed because the system flushes no folders, if there is one: a loss of
 /// power may take back what was put there.
-fn tell_unflushed<N: Notices>(settings: &Settings, path: Option<String>, notices: &mut N)
-    ensures { TakesEach N.took (unflushed_lines settings.now (option_map string_bytes path)) notices.old notices.new }
+fn tell_unflushed<N: Notices>(settings: &Settings, path: Option<&str>, notices: &mut N)
+    ensures { TakesEach N.took (unflushed_lines settings.now (option_copied path)) notices.old notices.new }
 {
     if let Some(path) = path {
         let reason = b": its file system flushes no folders";
-        notices.take_line(settings, Subject::Notice, path.as_str(), reason);
+        notices.take_line(settings, Subject::Notice, path, reason);
     }
 }
 
