@@ -6,8 +6,9 @@
    The steps are open, openat, stat, lstat, fstat, lseek, read, write, fsync, ftruncate, rename, link and unlink of a file
    or a folder below that one, by its path or through a folder that is open, and connect, send and recv. Each adds a line to
    the file `note`: its word and what it is for.
-   The seventh, here, is answered -1 with EIO, and its line begins with `refused`. Its effect is `none`, `whole`, `half`,
-   the first half of the bytes for a write or a send and nothing for any other step, or `zero`: a write is answered 0.
+   The seventh, here, is answered -1 with EIO, or with the error STEP_ERROR, and its line begins with `refused`. Its
+   effect is `none`, `whole`, `half`, the first half of the bytes for a write or a send and nothing for any other step, or
+   `zero`: a write is answered 0.
    With STEP_LATER set all later steps are refused too, with no effect. Without STEP_REFUSED none is refused. */
 
 #include "preloaded.h"
@@ -34,6 +35,12 @@ static int is_of_file(int descriptor)
 }
 
 enum effect { DONE, NONE, HALF, WHOLE };
+
+/* The answer of a step that is refused. */
+static int stopped(void)
+{
+    return refused(number_in("STEP_ERROR", EIO));
+}
 
 /* Counts a step, and answers what is done with it. */
 static enum effect taken(const char *word, const char *what)
@@ -73,20 +80,20 @@ int open(const char *path, int flags, ...)
     int answer;
 
     if (effect == NONE || effect == HALF)
-        return refused(EIO);
+        return stopped();
     answer = next(path, flags, MODE_BEHIND(flags));
     if (effect == DONE)
         return answer;
     if (answer >= 0)
         close(answer);
-    return refused(EIO);
+    return stopped();
 }
 
 int openat(int folder, const char *path, int flags, ...)
 {
     NEXT(openat);
 
-    return taken_at("openat", path) == DONE ? next(folder, path, flags, MODE_BEHIND(flags)) : refused(EIO);
+    return taken_at("openat", path) == DONE ? next(folder, path, flags, MODE_BEHIND(flags)) : stopped();
 }
 
 int statx(int folder, const char *path, int flags, unsigned int mask, struct statx *found)
@@ -95,19 +102,19 @@ int statx(int folder, const char *path, int flags, unsigned int mask, struct sta
     const char *word = flags & AT_SYMLINK_NOFOLLOW ? "lstat" : "stat";
     enum effect effect = *path ? taken_at(word, path) : taken_of("fstat", folder);
 
-    return effect == DONE ? next(folder, path, flags, mask, found) : refused(EIO);
+    return effect == DONE ? next(folder, path, flags, mask, found) : stopped();
 }
 
 off_t lseek(int descriptor, off_t place, int from)
 {
     NEXT(lseek);
-    return taken_of("lseek", descriptor) == DONE ? next(descriptor, place, from) : refused(EIO);
+    return taken_of("lseek", descriptor) == DONE ? next(descriptor, place, from) : stopped();
 }
 
 ssize_t read(int descriptor, void *bytes, size_t size)
 {
     NEXT(read);
-    return taken_of("read", descriptor) == DONE ? next(descriptor, bytes, size) : refused(EIO);
+    return taken_of("read", descriptor) == DONE ? next(descriptor, bytes, size) : stopped();
 }
 
 ssize_t write(int descriptor, const void *bytes, size_t size)
@@ -121,7 +128,7 @@ ssize_t write(int descriptor, const void *bytes, size_t size)
         return 0;
     if (effect != NONE)
         (void)!next(descriptor, bytes, effect == HALF ? size / 2 : size);
-    return refused(EIO);
+    return stopped();
 }
 
 int fsync(int descriptor)
@@ -133,7 +140,7 @@ int fsync(int descriptor)
         return next(descriptor);
     if (effect == WHOLE)
         next(descriptor);
-    return refused(EIO);
+    return stopped();
 }
 
 int ftruncate(int descriptor, off_t size)
@@ -145,7 +152,7 @@ int ftruncate(int descriptor, off_t size)
         return next(descriptor, size);
     if (effect == WHOLE)
         (void)!next(descriptor, size);
-    return refused(EIO);
+    return stopped();
 }
 
 /* Gives a file another name by this call of the system. */
@@ -157,7 +164,7 @@ static int named(const char *word, int (*next)(const char *, const char *), cons
         return next(from, to);
     if (effect == WHOLE)
         next(from, to);
-    return refused(EIO);
+    return stopped();
 }
 
 int rename(const char *from, const char *to)
@@ -181,7 +188,7 @@ int unlink(const char *path)
         return next(path);
     if (effect == WHOLE)
         next(path);
-    return refused(EIO);
+    return stopped();
 }
 
 int unlinkat(int folder, const char *name, int flags)
@@ -196,13 +203,13 @@ int unlinkat(int folder, const char *name, int flags)
         return next(folder, name, flags);
     if (effect == WHOLE)
         next(folder, name, flags);
-    return refused(EIO);
+    return stopped();
 }
 
 int connect(int socket, const struct sockaddr *address, socklen_t size)
 {
     NEXT(connect);
-    return taken("connect", "the link") == DONE ? next(socket, address, size) : refused(EIO);
+    return taken("connect", "the link") == DONE ? next(socket, address, size) : stopped();
 }
 
 ssize_t send(int socket, const void *bytes, size_t size, int flags)
@@ -214,7 +221,7 @@ ssize_t send(int socket, const void *bytes, size_t size, int flags)
         return next(socket, bytes, size, flags);
     if (effect != NONE)
         next(socket, bytes, effect == HALF ? size / 2 : size, flags);
-    return refused(EIO);
+    return stopped();
 }
 
 ssize_t recv(int socket, void *bytes, size_t size, int flags)
@@ -226,5 +233,5 @@ ssize_t recv(int socket, void *bytes, size_t size, int flags)
         return next(socket, bytes, size, flags);
     if (effect == WHOLE)
         next(socket, bytes, size, flags);
-    return refused(EIO);
+    return stopped();
 }

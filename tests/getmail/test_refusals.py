@@ -3,6 +3,7 @@
 Each run ends with its line and leaves nothing half done, and the next one, with nothing refused, completes it.
 """
 
+import errno
 import os
 import resource
 import shutil
@@ -190,9 +191,37 @@ class EachCall(unittest.TestCase):
                     return
         self.fail("a session has more than 200 flushes and new names")
 
+    def session_of_known(self, library, **changes):
+        """A session without `-d` of three messages, two of which the record shows and the Maildir has no more: the run, its commands,
+        and the names of the calls that it made for files of the record's folder."""
+        with Server(THREE[:2]) as server, Account(server.port) as account:
+            self.assertEqual(self.session(server, account, "-q"), programs.SILENT)
+            for name in os.listdir(account.maildir / "new"):
+                (account.maildir / "new" / name).unlink()
+            server.messages = list(THREE)
+            note = account.home / "note"
+            changes |= {"LD_PRELOAD": str(library), "STEP_BELOW": str(account.folder), "STEP_NOTE": str(note)}
+            run = self.session(server, account, "-q", **changes)
+            return run, server.commands, [line.split("\t")[0] for line in note.read_text().splitlines()]
+
+    def test_an_open_file_that_is_told_to_be_missing(self):
+        """Once the record is open, ENOENT of a call on it doesn't mean that there is none: no message is fetched twice."""
+        with preload.library("refuse_step") as refuse_step:
+            run, commands, steps = self.session_of_known(refuse_step)
+            self.assertEqual((run, commands), (programs.SILENT, [*LOGIN, "RETR 3", "QUIT"]))
+            for step in ("fstat", "lseek", "read", "write", "fsync"):
+                self.assertIn(step, steps)
+            for number, step in enumerate(steps, 1):
+                if step not in ("connect", "send", "recv", "open", "stat", "lstat", "rename", "link", "unlink"):
+                    with self.subTest(number=number, step=step):
+                        run, commands, refused = self.session_of_known(refuse_step, STEP_REFUSED=str(number), STEP_ERROR=str(errno.ENOENT))
+                        self.assertEqual(refused[number - 1], f"refused {step}")
+                        self.assertEqual(run, programs.Run(1, b"", RECORD_REFUSED))
+                        self.assertEqual([command for command in commands if command in ("RETR 1", "RETR 2")], [])
+
     @staticmethod
-    def session(server, account, **changes):
+    def session(server, account, *words, **changes):
         thread = server.begin_session()
-        run = account.run("-q", "-d", **changes)
+        run = account.run(*(words or ("-q", "-d")), **changes)
         thread.join(programs.SECONDS)
         return run

@@ -2,7 +2,7 @@
 -- it. Names are here the texts of paths.
 use Rattle.std.specs.{
   Prelude.{◌≡◌, ◌≢◌, ◌⊎◌, ◌+◌, ◌≤◌, ℕ, List, [], ◌++◌, length, take, drop, Bool, false, true},
-  Prelude.{Option, Some, None, Result, Ok, Err, Vec},
+  Prelude.{Option, Some, None, Result, Ok, Err, IfErr, IfOk, OnOk, Vec},
   IoError.error_kind,
   declared.io.ErrorKind.{ErrorKind, TheVariants.{InvalidInput, Interrupted, NotFound, Unsupported}},
 }
@@ -38,6 +38,10 @@ pub record StillLeads (t : Tree) (o : OpenPath) (b : Blob) : Type 0 where
 -- ENOENT
 abbrev pub IsAbsent : Denial → Type 0
 IsAbsent d = error_kind d.error ≡ NotFound
+
+-- a call isn't refused because nothing is there
+abbrev pub NeverAbsent : {T : Type 0} → Result T Denial → Type 0
+NeverAbsent r = IfErr r (λ d. IsAbsent d → ⊥)
 
 -- EINTR
 abbrev pub WasInterrupted : Denial → Type 0
@@ -83,8 +87,7 @@ Opens opened t path (Err d) = IsAbsent d → find path t.directory.entries ≡ N
 
 -- fstat(2): the size of the file
 abbrev pub StatsOpened : Tree → OpenPath → Result FileStat Denial → Type 0
-StatsOpened t file (Ok stat) = (b : Blob) → StillLeads t file b → stat.len ≡ length b.content
-StatsOpened t file (Err d) = IsAbsent d → ⊥
+StatsOpened t file r = IfOk r (λ stat. (b : Blob) → StillLeads t file b → stat.len ≡ length b.content)
 
 -- the bytes from a place on, as many as were read
 abbrev pub bytes_read : Blob → ℕ → ℕ → List ℕ
@@ -101,12 +104,11 @@ pub record IsRead (b : Blob) (place n : ℕ) (buf : List ℕ) : Type 0 where
 abbrev pub ReadsInto : Tree → OpenPath → Result ℕ Denial → List ℕ → OpenPath → Type 0
 ReadsInto t file (Ok n) buf later =
     (later ≡ record file { place = file.place + n }) × ((b : Blob) → StillLeads t file b → IsRead b file.place n buf)
-ReadsInto t file (Err d) buf later = (IsAbsent d → ⊥) × (WasInterrupted d → later ≡ file)
+ReadsInto t file (Err d) buf later = WasInterrupted d → later ≡ file
 
--- lseek(2) to a place, from the beginning on
+-- lseek(2) to a place, from the beginning on; after an error the place isn't known
 abbrev pub Seeks : {T : Type 0} → OpenPath → ℕ → Result T Denial → OpenPath → Type 0
-Seeks file place (Ok done) later = later ≡ record file { place = place }
-Seeks file place (Err d) later = IsAbsent d → ⊥
+Seeks file place r later = OnOk r (later ≡ record file { place = place })
 
 -- write(2) to a file that was opened with O_APPEND: a front of the bytes was appended. After an error a front of them
 -- may have been; EINTR: none was

@@ -1,12 +1,28 @@
 -- What a device of the machine's file system makes of an answer of the system.
 use Rattle.std.specs.{
-  Prelude.{◌≡◌, ◌-◌, ℕ, ℤ, pos, negsuc, Bool, true, false, Result, Ok, Err},
+  Prelude.{◌≡◌, ◌≢◌, ◌⊎◌, ◌-◌, ℕ, ℤ, pos, negsuc, Bool, true, false, Result, Ok, Err},
   Fs.{IsDir, IsFile, file_type},
   IoError.error_kind,
   declared.{
     fs.attrs.Metadata.Metadata,
-    io.ErrorKind.{ErrorKind, TheVariants.{CrossesDevices, FilesystemLoop, InvalidFilename, InvalidInput}},
-    io.ErrorKind.TheVariants.{NotADirectory, PermissionDenied, TooManyLinks, Unsupported},
+    io.{
+      Error.Error,
+      ErrorKind.{
+        ErrorKind,
+        TheVariants.{
+          CrossesDevices,
+          FilesystemLoop,
+          InvalidFilename,
+          InvalidInput,
+          NotADirectory,
+          NotFound,
+          PermissionDenied,
+          StaleNetworkFileHandle,
+          TooManyLinks,
+          Unsupported,
+        },
+      },
+    },
   },
 }
 use Rattle.system_calls.specs.declared.refusal.Denial.{Denial}
@@ -58,6 +74,13 @@ abbrev pub flushes_none : ErrorKind → Bool
 flushes_none InvalidInput = true
 flushes_none Unsupported = true
 flushes_none _ = false
+
+-- what is told of a file that was opened: the system's answer, but ESTALE in place of ENOENT
+abbrev pub TellsOpened : {T : Type 0} → Result T Error → Result T Denial → Type 0
+TellsOpened (Ok value) told = told ≡ Ok value
+TellsOpened (Err error) (Ok value) = ⊥
+TellsOpened (Err error) (Err d) = ((error_kind error ≢ NotFound) × (d.error ≡ error))
+    ⊎ ((error_kind error ≡ NotFound) × (error_kind d.error ≡ StaleNetworkFileHandle))
 
 -- whether the names of a folder were flushed, by the answer to fsync(2)
 abbrev pub TellsFlush : {T : Type 0} → Result T Denial → Result Bool Denial → Type 0

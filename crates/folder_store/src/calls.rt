@@ -84,7 +84,7 @@ pub trait FileCalls {
       Seeks,
       Stats,
     };
-    ghost use Rattle.folder_store.specs.Calls.{StatsOpened, Syncs, SyncsNames, Tree, WritesOnto};
+    ghost use Rattle.folder_store.specs.Calls.{NeverAbsent, StatsOpened, Syncs, SyncsNames, Tree, WritesOnto};
 
     type Made: MadeHandle + Drop;
 
@@ -132,19 +132,22 @@ pub trait FileCalls {
 
     /// fstat(2)
     fn fstat(&mut self, file: &Self::File) -> Result<FileStat, Denial>
-        ensures { sound self.new → sound self.old × (tree self.new ≡ tree self.old)
+        ensures there { NeverAbsent result }
+        ensures stats { sound self.new → sound self.old × (tree self.new ≡ tree self.old)
             × StatsOpened (tree self.old) (Self.File.opened file.now) result };
 
     /// read(2)
     fn read(&mut self, file: &mut Self::File, buf: &mut [u8]) -> Result<usize, Denial>
         requires { 0 < length buf.old }
         ensures within { IfOk result (λ n. n ≤ length buf.new) }
+        ensures there { NeverAbsent result }
         ensures reads { sound self.new → sound self.old × (tree self.new ≡ tree self.old)
             × ReadsInto (tree self.old) (Self.File.opened file.old) result buf.new (Self.File.opened file.new) };
 
     /// lseek(2), from the beginning on.
     fn seek(&mut self, file: &mut Self::File, place: u64) -> Result<(), Denial>
-        ensures { sound self.new → sound self.old × (tree self.new ≡ tree self.old)
+        ensures there { NeverAbsent result }
+        ensures seeks { sound self.new → sound self.old × (tree self.new ≡ tree self.old)
             × Seeks (Self.File.opened file.old) place result (Self.File.opened file.new) };
 
     /// write(2) to a file that was opened to append.

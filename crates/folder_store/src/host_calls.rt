@@ -9,14 +9,15 @@ ghost use Rattle.folder_store.specs.{
 
 use crate::calls::{Access, FileCalls, FileKind, FileStat, MadeHandle, OpenHandle};
 use crate::exact_listing::ChangeTime;
-use crate::system::flush_targets;
+use crate::system::{flush_targets, opened_answer};
 use std::fs::{Metadata, OpenFile, OpenOptions};
 use std::io::{self, Read, Seek, SeekFrom, Write};
 use std::os::unix::fs::{MetadataExt, OpenOptionsExt};
 use std::rt::Files;
 use system_calls::{Denial, OpenAt, System};
 
-/// The machine's file system. Nothing is known of what it does: each call passes one call on.
+/// The machine's file system. Nothing is known of what it does: each call passes one call on. An open file isn't told
+/// to be missing.
 #[derive(Drop)]
 pub struct HostCalls<'a, R> {
     pub system: &'a System<'a, R>,
@@ -59,11 +60,11 @@ impl<F: OpenFile + Write> MadeHandle for OpenAt<F> {
 
     fn write(&mut self, bytes: &[u8]) -> Result<usize, Denial> {
         let answer = self.inner.write(bytes);
-        self.asked("write", answer)
+        opened_answer(self, "write", answer)
     }
 
     fn fsync(&mut self) -> Result<(), Denial> {
-        self.asked("fsync", self.inner.sync_all())
+        opened_answer(self, "fsync", self.inner.sync_all())
     }
 
     fn denied(&self, error: io::Error) -> Denial {
@@ -125,34 +126,34 @@ impl<'a, R: Files + AllocGlobal> FileCalls for HostCalls<'a, R> {
     }
 
     fn fstat(&mut self, file: &OpenAt<R::File>) -> Result<FileStat, Denial> {
-        Ok(FileStat::of(&file.asked("fstat", file.inner.metadata())?))
+        Ok(FileStat::of(&opened_answer(file, "fstat", file.inner.metadata())?))
     }
 
     fn read(&mut self, file: &mut OpenAt<R::File>, buf: &mut [u8]) -> Result<usize, Denial> {
         let answer = file.inner.read(buf);
-        file.asked("read", answer)
+        opened_answer(file, "read", answer)
     }
 
     fn seek(&mut self, file: &mut OpenAt<R::File>, place: u64) -> Result<(), Denial> {
         let answer = file.inner.seek(SeekFrom::Start(place));
-        file.asked("lseek", answer)?;
+        opened_answer(file, "lseek", answer)?;
         Ok(())
     }
 
     fn write(&mut self, file: &mut OpenAt<R::File>, bytes: &[u8]) -> Result<usize, Denial> {
         let answer = file.inner.write(bytes);
-        file.asked("write", answer)
+        opened_answer(file, "write", answer)
     }
 
     fn ftruncate(&mut self, file: &OpenAt<R::File>, len: u64) -> Result<(), Denial> {
-        file.asked("ftruncate", file.inner.set_len(len))
+        opened_answer(file, "ftruncate", file.inner.set_len(len))
     }
 
     fn fsync(&mut self, file: &OpenAt<R::File>) -> Result<(), Denial> {
-        file.asked("fsync", file.inner.sync_all())
+        opened_answer(file, "fsync", file.inner.sync_all())
     }
 
     fn fsync_folder(&mut self, folder: &OpenAt<R::File>) -> Result<(), Denial> {
-        folder.asked("fsync", folder.inner.sync_all())
+        opened_answer(folder, "fsync", folder.inner.sync_all())
     }
 }

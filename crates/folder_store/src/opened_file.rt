@@ -5,7 +5,7 @@ ghost use Rattle.folder_store.specs.{
   Calls.{
     Fills,
     FillsWhole,
-    IsAbsent,
+    NeverAbsent,
     MeasuresOpened,
     OpensFound,
     OpensRegular,
@@ -103,7 +103,7 @@ fn read_some<C: FileCalls>(
     ensures within { IfOk result (λ got. IfSome got (λ n. n ≤ length buf.new)) }
     ensures reads { C.sound calls.new → C.sound calls.old × (C.tree calls.new ≡ C.tree calls.old)
         × IfOk result (ReadsSome (C.tree calls.old) (C.File.opened file.old) buf.new (C.File.opened file.new)) }
-    ensures fault { C.sound calls.new → IfErr result (λ d. IsAbsent d → ⊥) }
+    ensures there { NeverAbsent result }
 {
     match calls.read(file, buf) {
         Ok(count) => Ok(Some(count)),
@@ -160,7 +160,7 @@ fn make_room(bytes: &mut Vec<u8>, filled: usize, more: usize) -> Result<(), Deni
     requires { filled ≤ length bytes.old.items }
     ensures front { take filled bytes.new.items ≡ take filled bytes.old.items }
     ensures room { OnOk result (filled < length bytes.new.items) }
-    ensures fault { IfErr result (λ d. IsAbsent d → ⊥) }
+    ensures there { NeverAbsent result }
 {
     if filled < bytes.len() {
         return Ok(());

@@ -6,7 +6,8 @@ ghost use Rattle.std.specs.{
   Path.path_join,
   Prelude.{◌≡◌, ◌≢◌, ◌↔◌, Err, IfErr, IfOk, IsErrAnd, IsTrue, MatchOption, Ok, string_bytes},
 };
-ghost use Rattle.folder_store.specs.{HostAnswers.TellsFlush, HostPaths.ArePartsOf, Marks.IsOurs};
+ghost use Rattle.system_calls.specs.Denials.{IsAbout};
+ghost use Rattle.folder_store.specs.{HostAnswers.{TellsFlush, TellsOpened}, HostPaths.ArePartsOf, Marks.IsOurs};
 
 use crate::process_mark::is_marked;
 use std::alloc::{AllocError, Global};
@@ -25,10 +26,29 @@ const LEFT_BEHIND_SECONDS: u64 = 3_600;
 /// How many links the system follows in a path, at most.
 const MOST_LINKS: u32 = 40;
 
+/// The answer of a call of an open file or folder, which is shown if it is a refusal. ENOENT is one like any other, and
+/// not that nothing is there: a file system in user space may give it of a file that it opened.
+pub fn opened_answer<F, T>(
+    file: &OpenAt<F>,
+    call: &str,
+    answer: io::Result<T>,
+) -> Result<T, Denial>
+    ensures tells { TellsOpened answer result }
+    ensures path { IfErr result (IsAbout (string_bytes file.now.path)) }
+{
+    match file.asked(call, answer) {
+        Err(fault) if fault.kind() == ErrorKind::NotFound => Err(file.denied(io::Error::new(
+            ErrorKind::StaleNetworkFileHandle,
+            "not there any more, although it was opened",
+        ))),
+        answer => answer,
+    }
+}
+
 /// Flushes the names of a folder to the disk. False if the system flushes no folders, which is no
 /// fault.
 fn flush_folder<F: OpenFile>(folder: &OpenAt<F>) -> Result<bool, Denial> {
-    are_flushed(folder.asked("fsync", folder.inner.sync_all()))
+    are_flushed(opened_answer(folder, "fsync", folder.inner.sync_all()))
 }
 
 /// Whether names were flushed, by the system's answer.

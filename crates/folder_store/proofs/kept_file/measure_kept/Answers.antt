@@ -4,7 +4,7 @@ use Rattle.folder_store.proofs.kept_file.measure_kept.Goals as goal
 
 pub returns-clause-tells : goal.returns-clause-tells
 returns-clause-tells g c = λ s.
-    let sized = c.in_ok-found.ensures s in
+    let sized = c.in_ok-found.ensures.stats s in
     let first = c.in_ok-changed.ensures.opens sized.0 in (
       first.0,
       sized.1 ∙ first.1,

@@ -6,7 +6,7 @@ use Rattle.folder_store.proofs.opened_file.edges_in.Goals as goal
 pub returns : goal.returns
 returns g c = λ s.
     let last = c.in_ok-fill_whole-2.ensures s in
-    let moved = c.in_ok-seek.ensures last.0 in
+    let moved = c.in_ok-seek.ensures.seeks last.0 in
     let first = c.in_ok-fill_whole.ensures moved.0 in
     let at = moved.2 ∙ ap (λ (o : OpenPath). record o { place = c.args.size - 2 }) first.2.0 in (
       first.0,

@@ -5,7 +5,7 @@ use Rattle.folder_store.proofs.opened_file.read_edges.Goals as goal
 pub returns : goal.returns
 returns g c = λ s.
     let read = c.edges_in.ensures s in
-    let sized = c.in_ok-found.ensures read.0 in
+    let sized = c.in_ok-found.ensures.stats read.0 in
     let first = c.in_ok-file.ensures sized.0 in (
       first.0,
       read.1 ∙ (sized.1 ∙ first.1),
