@@ -41,7 +41,7 @@ pieces_under front name d start (Err fault) buf is = (refl, λ gone. sym (conten
 pub sizes_under : (front name : List ℕ) (d : Directory) (r : Result ℕ StoreFault) → TellsFileSize d (front ++ name) r d
     → TellsFileSize (directory_under front d) name r (directory_under front d)
 sizes_under front name d (Ok size) is = ((is.0.0, sym (content_under front name d) ∙ is.0.1, is.0.2), refl)
-sizes_under front name d (Err fault) is = refl
+sizes_under front name d (Err fault) is = (refl, λ gone. sym (content_under front name d) ∙ is.1 gone)
 
 -- ---- what is changed
 

@@ -73,7 +73,8 @@ Renames old file to (Err d) new = (new.directory ≡ old.directory) ⊎ (new.dir
 
 -- what stat(2) says of what a path leads to
 abbrev pub TellsFile : Option Blob → FileStat → Type 0
-TellsFile found stat = stat.kind ≡ File → (b : Blob) × (found ≡ Some b) × (stat.len ≡ length b.content)
+TellsFile found stat = (stat.kind ≡ File → (b : Blob) × (found ≡ Some b) × (stat.len ≡ length b.content))
+    × (stat.kind ≢ File → found ≡ None)
 
 -- stat(2): whether a regular file is there, and its size; ENOENT: none is
 abbrev pub Stats : Tree → List ℕ → Result FileStat Denial → Type 0
@@ -184,10 +185,10 @@ abbrev pub OpensRegular : {H : Type 0} → (H → OpenPath) → Tree → List �
 OpensRegular opened t path (Ok file) = IsOpenedAt t path (opened file)
 OpensRegular opened t path (Err d) = IsAbsent d → find path t.directory.entries ≡ None
 
--- the same; None is a folder
+-- the same; None is a folder, so that no file is there
 abbrev pub OpensFound : {H : Type 0} → (H → OpenPath) → Tree → List ℕ → Result (Option H) Denial → Type 0
 OpensFound opened t path (Ok (Some file)) = IsOpenedAt t path (opened file)
-OpensFound opened t path (Ok None) = Unit {0}
+OpensFound opened t path (Ok None) = find path t.directory.entries ≡ None
 OpensFound opened t path (Err d) = IsAbsent d → find path t.directory.entries ≡ None
 
 -- the front of a buffer has this many bytes of an open file from its place on

@@ -115,7 +115,7 @@ ReadsPiece old name start (Err fault) buf new = LacksFile old name fault new
 abbrev pub TellsFileSize : Directory → List ℕ → Result ℕ StoreFault → Directory → Type 0
 TellsFileSize old name (Ok size) new = ((was : List ℕ) × (content_at old name ≡ Some was) × (size ≡ length was))
     × (new ≡ old)
-TellsFileSize old name (Err fault) new = new ≡ old
+TellsFileSize old name (Err fault) new = LacksFile old name fault new
 
 -- the file of this name became one to which it has the relation
 abbrev pub Alters : (Blob → Blob → Type 0) → Directory → List ℕ → Directory → Type 0

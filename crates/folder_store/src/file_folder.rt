@@ -89,7 +89,7 @@ pub trait FileFolder: FolderState {
             × ReadsPiece (Self.directory self.old) name.now start result buf.new (Self.directory self.new) }
         ensures fault { IfErr result IsDeviceFault };
 
-    /// How many bytes a file has.
+    /// How many bytes a file has. Missing if there is none.
     fn size(&mut self, name: &str) -> Result<u64, StoreFault>
         ensures { Self.sound self.new → Self.sound self.old
             × TellsFileSize (Self.directory self.old) name.now result (Self.directory self.new) };

@@ -13,6 +13,7 @@ use crate::handles::{Changed, Handles, Names};
 use crate::host_paths::HostPaths;
 use crate::new_file::no_octet;
 use crate::opened_file::{measure, open_regular};
+use crate::system::gone;
 use crate::watch::{CHANGED, Watch};
 use std::io::{self, ErrorKind};
 use system_calls::Denial;
@@ -84,7 +85,7 @@ fn handle_of<C: FileCalls>(
 }
 
 /// The size of a file by the handle that is kept, which also tells whether the file was removed meanwhile: nothing is
-/// written to one that has no name any more.
+/// written to one that has no name any more. That is a refusal: something else may have the name by now.
 fn measure_kept<C: FileCalls>(
     calls: &mut C,
     paths: &HostPaths<'_>,
@@ -100,7 +101,7 @@ fn measure_kept<C: FileCalls>(
     let changed = handle_of(calls, paths, handles, name)?;
     let found = calls.fstat(&changed.file)?;
     if found.links == 0 {
-        return Err(changed.file.denied(io::Error::from(ErrorKind::NotFound)));
+        return Err(changed.file.denied(gone()));
     }
     handles.keep(changed);
     Ok(found.len)

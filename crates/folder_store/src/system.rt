@@ -26,6 +26,16 @@ const LEFT_BEHIND_SECONDS: u64 = 3_600;
 /// How many links the system follows in a path, at most.
 const MOST_LINKS: u32 = 40;
 
+/// An open file isn't there any more.
+pub fn gone() -> io::Error
+    ensures { error_kind result ≡ ErrorKind.StaleNetworkFileHandle }
+{
+    io::Error::new(
+        ErrorKind::StaleNetworkFileHandle,
+        "not there any more, although it was opened",
+    )
+}
+
 /// The answer of a call of an open file or folder, which is shown if it is a refusal. ENOENT is one like any other, and
 /// not that nothing is there: a file system in user space may give it of a file that it opened.
 pub fn opened_answer<F, T>(
@@ -37,10 +47,7 @@ pub fn opened_answer<F, T>(
     ensures path { IfErr result (IsAbout (string_bytes file.now.path)) }
 {
     match file.asked(call, answer) {
-        Err(fault) if fault.kind() == ErrorKind::NotFound => Err(file.denied(io::Error::new(
-            ErrorKind::StaleNetworkFileHandle,
-            "not there any more, although it was opened",
-        ))),
+        Err(fault) if fault.kind() == ErrorKind::NotFound => Err(file.denied(gone())),
         answer => answer,
     }
 }
