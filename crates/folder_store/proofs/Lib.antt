@@ -10,3 +10,4 @@ pub mod Searching
 pub mod Reading
 pub mod Changing
 pub mod Folder
+mod Watching

@@ -62,9 +62,12 @@ pub trait MadeHandle {
 /// A file or a folder that was opened.
 pub trait OpenHandle {
     ghost use Rattle.std.specs.Prelude.{◌≡◌};
-    ghost use Rattle.folder_store.specs.Calls.{OpenPath};
+    ghost use Rattle.folder_store.specs.{declared.calls.FileStat.{FileStat}, Calls.{OpenPath}};
 
     ghost opened: { Self → OpenPath };
+
+    // What fstat(2) told of it.
+    ghost told: { Self → FileStat → Type 0 };
 
     /// An error about it.
     fn denied(&self, error: io::Error) -> Denial
@@ -133,6 +136,7 @@ pub trait FileCalls {
     /// fstat(2)
     fn fstat(&mut self, file: &Self::File) -> Result<FileStat, Denial>
         ensures there { NeverAbsent result }
+        ensures tells { IfOk result (Self.File.told file.now) }
         ensures stats { sound self.new → sound self.old × (tree self.new ≡ tree self.old)
             × StatsOpened (tree self.old) (Self.File.opened file.now) result };
 

@@ -61,7 +61,8 @@ impl<F: Drop> Handles<F> {
 
     /// Keeps the handle of a file that was changed.
     pub fn keep(&mut self, changed: Changed<F>)
-        ensures { (self.new.changed ≡ Some changed) × (self.new.names ≡ self.old.names) }
+        ensures { (self.new.changed ≡ Some changed) × (self.new.names ≡ self.old.names)
+            × (self.new.watch ≡ self.old.watch) }
     {
         self.changed = Some(changed);
     }
@@ -104,7 +105,8 @@ impl<F: Drop> Handles<F> {
 
     /// The handle kept from the file's last change, if it is. Another is closed.
     pub fn take_kept(&mut self, name: &str) -> Option<Changed<F>>
-        ensures taken { (self.new.changed ≡ None) × (self.new.names ≡ self.old.names) }
+        ensures taken { (self.new.changed ≡ None) × (self.new.names ≡ self.old.names)
+            × (self.new.watch ≡ self.old.watch) }
         ensures kept { IfSome result (λ c. (self.old.changed ≡ Some c) × (string_bytes c.name ≡ name.now)) }
     {
         let changed = self.take_changed(name)?;
@@ -117,7 +119,8 @@ impl<F: Drop> Handles<F> {
 
     /// The handle by which a file was changed last, if it is this one. Another is closed.
     pub fn take_changed(&mut self, name: &str) -> Option<Changed<F>>
-        ensures taken { (self.new.changed ≡ None) × (self.new.names ≡ self.old.names) }
+        ensures taken { (self.new.changed ≡ None) × (self.new.names ≡ self.old.names)
+            × (self.new.watch ≡ self.old.watch) }
         ensures last { IfSome result (λ c. (self.old.changed ≡ Some c) × (string_bytes c.name ≡ name.now)) }
     {
         let changed = self.changed.take()?;

@@ -75,6 +75,8 @@ impl<F: OpenFile + Write> MadeHandle for OpenAt<F> {
 impl<F> OpenHandle for OpenAt<F> {
     ghost opened = { λ _. unknown_opened };
 
+    ghost told = { λ _ _. Unit {0} };
+
     fn denied(&self, error: io::Error) -> Denial {
         OpenAt::denied(self, error)
     }

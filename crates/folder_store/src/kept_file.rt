@@ -6,6 +6,7 @@ ghost use Rattle.folder_store.specs.{
   FileFolder.{AppendsTo, CutsTo, FlushesFile, TellsFileSize},
   HostPaths.{folder_of, path_named},
   Kept.{KeptHolds, OpensKept},
+  Watch.{AppendsWatched, ChecksWatched, CutsWatched, NotesWatched},
 };
 
 use crate::calls::{Access, FileCalls, OpenHandle};
@@ -74,7 +75,8 @@ fn handle_of<C: FileCalls>(
     requires { KeptHolds (C.sound calls.old) C.File.opened (C.tree calls.old) (folder_of paths.now) handles.old }
     ensures opens { C.sound calls.new → C.sound calls.old × (C.tree calls.new ≡ C.tree calls.old)
         × OpensKept C.File.opened (C.tree calls.old) paths.now name.now result }
-    ensures others { (handles.new.changed ≡ None) × (handles.new.names ≡ handles.old.names) }
+    ensures others { (handles.new.changed ≡ None) × (handles.new.names ≡ handles.old.names)
+        × (handles.new.watch ≡ handles.old.watch) }
 {
     if let Some(changed) = handles.take_kept(name) {
         return Ok(changed);
@@ -158,8 +160,9 @@ fn append_counted<C: FileCalls>(
     file: &mut C::File,
     bytes: &[u8],
 ) -> (u64, Result<(), Denial>)
-    ensures { C.sound calls.new → C.sound calls.old × (C.File.opened file.new ≡ C.File.opened file.old)
+    ensures appends { C.sound calls.new → C.sound calls.old × (C.File.opened file.new ≡ C.File.opened file.old)
         × AppendsOpened (C.tree calls.old) (C.File.opened file.old) bytes.now result.1 (C.tree calls.new) }
+    ensures counts { OnOk result.1 (result.0 ≡ length bytes.now) }
 {
     let mut rest = bytes;
     for _ in 0..u64::MAX {
@@ -195,7 +198,8 @@ fn check_watched<C: FileCalls>(
     watch: &mut Watch,
     changed: &Changed<C::File>,
 ) -> Result<(), Denial>
-    ensures { C.sound calls.new → C.sound calls.old × (C.tree calls.new ≡ C.tree calls.old) }
+    ensures same { C.sound calls.new → C.sound calls.old × (C.tree calls.new ≡ C.tree calls.old) }
+    ensures checks { ChecksWatched (C.File.told changed.now.file) watch.old result watch.new }
 {
     if watch.watches() {
         let found = calls.fstat(&changed.file)?;
@@ -212,7 +216,8 @@ fn note_watched<C: FileCalls>(
     changed: &Changed<C::File>,
     more: u64,
 ) -> Result<(), Denial>
-    ensures { C.sound calls.new → C.sound calls.old × (C.tree calls.new ≡ C.tree calls.old) }
+    ensures same { C.sound calls.new → C.sound calls.old × (C.tree calls.new ≡ C.tree calls.old) }
+    ensures notes { NotesWatched (C.File.told changed.now.file) watch.old more result watch.new }
 {
     if watch.is_set() {
         let found = calls.fstat(&changed.file)?;
@@ -229,9 +234,10 @@ fn append_watched<C: FileCalls>(
     changed: &mut Changed<C::File>,
     bytes: &[u8],
 ) -> Result<(), Denial>
-    ensures { C.sound calls.new → C.sound calls.old
+    ensures appends { C.sound calls.new → C.sound calls.old
         × (C.File.opened changed.new.file ≡ C.File.opened changed.old.file) × (changed.new.name ≡ changed.old.name)
         × AppendsOpened (C.tree calls.old) (C.File.opened changed.old.file) bytes.now result (C.tree calls.new) }
+    ensures watches { AppendsWatched C.File.told watch.old (length bytes.now) result watch.new }
 {
     check_watched(calls, paths, watch, changed)?;
     let (count, answer) = append_counted(calls, &mut changed.file, bytes);
@@ -250,6 +256,7 @@ pub fn append_kept<C: FileCalls>(
     bytes: &[u8],
 ) -> Result<(), Denial>
     requires { KeptHolds (C.sound calls.old) C.File.opened (C.tree calls.old) (folder_of paths.now) handles.old }
+    ensures watches { AppendsWatched C.File.told handles.old.watch (length bytes.now) result handles.new.watch }
     ensures appends { C.sound calls.new → C.sound calls.old
         × AppendsTo (C.tree calls.old).directory (path_named paths.now name.now) bytes.now (answered result)
         (C.tree calls.new).directory }
@@ -269,8 +276,9 @@ fn cut_watched<C: FileCalls>(
     changed: &Changed<C::File>,
     len: u64,
 ) -> Result<(), Denial>
-    ensures { C.sound calls.new → C.sound calls.old
+    ensures cuts { C.sound calls.new → C.sound calls.old
         × Truncates (C.tree calls.old) (C.File.opened changed.now.file) len result (C.tree calls.new) }
+    ensures watches { CutsWatched C.File.told watch.old result watch.new }
 {
     let found = calls.fstat(&changed.file)?;
     watch.check(paths, changed.name.as_str(), &found)?;
@@ -278,9 +286,10 @@ fn cut_watched<C: FileCalls>(
         return Err(paths.refusal(changed.name.as_str(), CHANGED));
     }
     calls.ftruncate(&changed.file, len)?;
-    if watch.watches() {
-        watch.leave(&calls.fstat(&changed.file)?);
+    if !watch.watches() {
+        return Ok(());
     }
+    watch.leave(&calls.fstat(&changed.file)?);
     Ok(())
 }
 
@@ -293,6 +302,7 @@ pub fn cut_kept<C: FileCalls>(
     len: u64,
 ) -> Result<(), Denial>
     requires { KeptHolds (C.sound calls.old) C.File.opened (C.tree calls.old) (folder_of paths.now) handles.old }
+    ensures watches { CutsWatched C.File.told handles.old.watch result handles.new.watch }
     ensures cuts { C.sound calls.new → C.sound calls.old
         × CutsTo (C.tree calls.old).directory (path_named paths.now name.now) len (answered result)
         (C.tree calls.new).directory }
@@ -311,8 +321,9 @@ fn flush_watched<C: FileCalls>(
     watch: &mut Watch,
     changed: &Changed<C::File>,
 ) -> Result<(), Denial>
-    ensures { C.sound calls.new → C.sound calls.old
+    ensures flushes { C.sound calls.new → C.sound calls.old
         × Syncs (C.tree calls.old) (C.File.opened changed.now.file) result (C.tree calls.new) }
+    ensures watches { NotesWatched (C.File.told changed.now.file) watch.old 0 result watch.new }
 {
     match calls.fsync(&changed.file) {
         Ok(()) => note_watched(calls, paths, watch, changed, 0),

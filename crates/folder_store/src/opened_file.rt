@@ -16,6 +16,7 @@ ghost use Rattle.folder_store.specs.{
   Calls.answered,
   FileFolder.{MeasuresFile, ReadsFile, ReadsPiece, TellsFileSize},
   HostPaths.path_named,
+  Watch.ReadsWatched,
 };
 
 use crate::calls::{Access, FileCalls, FileKind, OpenHandle};
@@ -275,7 +276,8 @@ pub fn read_edges<C: FileCalls>(
     watch: &mut Watch,
     name: &str,
 ) -> Result<Edges, Denial>
-    ensures { C.sound calls.new → C.sound calls.old × (C.tree calls.new ≡ C.tree calls.old)
+    ensures watches { ReadsWatched C.File.told watch.old result watch.new }
+    ensures measures { C.sound calls.new → C.sound calls.old × (C.tree calls.new ≡ C.tree calls.old)
         × MeasuresFile (C.tree calls.old).directory (path_named paths.now name.now) (answered result)
         (C.tree calls.old).directory }
 {

@@ -38,11 +38,7 @@ pub fn gone() -> io::Error
 
 /// The answer of a call of an open file or folder, which is shown if it is a refusal. ENOENT is one like any other, and
 /// not that nothing is there: a file system in user space may give it of a file that it opened.
-pub fn opened_answer<F, T>(
-    file: &OpenAt<F>,
-    call: &str,
-    answer: io::Result<T>,
-) -> Result<T, Denial>
+pub fn opened_answer<F, T>(file: &OpenAt<F>, call: &str, answer: io::Result<T>) -> Result<T, Denial>
     ensures tells { TellsOpened answer result }
     ensures path { IfErr result (IsAbout (string_bytes file.now.path)) }
 {

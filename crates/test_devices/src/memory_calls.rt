@@ -175,6 +175,8 @@ impl MadeHandle for MemoryMade {
 impl OpenHandle for MemoryOpened {
     ghost opened = { memory_opened };
 
+    ghost told = { λ _ _. Unit {0} };
+
     fn denied(&self, error: io::Error) -> Denial {
         Denial::of(self.alloc, self.path.as_str(), error)
     }

@@ -6,8 +6,8 @@ use Rattle.folder_store.proofs.kept_file.append_counted.Goals.{in-Some, in-None}
 pub loop-init : goal.loop-init
 loop-init g c = ([], refl, λ s. (s, refl, record { is = λ b leads. appended_none (g.C.FileCalls.tree c.args.calls.now) _ b leads }))
 
-pub returns-in-Err : goal.returns-in-Err
-returns-in-Err g c = λ s.
+pub returns-in-Err-clause-appends : goal.returns-in-Err-clause-appends
+returns-in-Err-clause-appends g c = λ s.
     let wrote = c.in-Err.ensures.appends s in
     let (front, split, so) = c.loop.invariant in
     let before = so wrote.0 in (

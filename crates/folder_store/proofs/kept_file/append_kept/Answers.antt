@@ -5,7 +5,7 @@ use Rattle.folder_store.proofs.kept_file.append_kept.Goals as goal
 
 pub returns-clause-appends : goal.returns-clause-appends
 returns-clause-appends g c = λ s.
-    let wrote = c.append_watched-answer.ensures s in
+    let wrote = c.append_watched-answer.ensures.appends s in
     let first = c.in_ok-changed.ensures.opens wrote.0 in (
       first.0,
       appends_answer (g.C.FileCalls.tree c.args.calls.now) (g.C.FileCalls.tree c.append_watched-answer.new.calls)
@@ -17,10 +17,10 @@ returns-clause-appends g c = λ s.
 pub returns-clause-kept : goal.returns-clause-kept
 returns-clause-kept g c = keeps_open g.C.File.OpenHandle.opened (folder_of c.args.paths.now) _ _ (g.C.FileCalls.tree c.args.calls.now)
     (g.C.FileCalls.tree c.append_watched-answer.new.calls) c.args.handles.now c.keep.new.self c.append_watched-answer.new.changed c.requires
-    (λ s. (c.in_ok-changed.ensures.opens (c.append_watched-answer.ensures s).0).0) c.keep.ensures.0
+    (λ s. (c.in_ok-changed.ensures.opens (c.append_watched-answer.ensures.appends s).0).0) c.keep.ensures.0
     (c.keep.ensures.1 ∙ c.in_ok-changed.ensures.others.1)
     (λ s.
-    let wrote = c.append_watched-answer.ensures s in
+    let wrote = c.append_watched-answer.ensures.appends s in
     let first = c.in_ok-changed.ensures.opens wrote.0 in
     subst (λ (name : List ℕ). IsOpenedAt (g.C.FileCalls.tree c.append_watched-answer.new.calls)
     (front_of (folder_of c.args.paths.now) ++ name)

@@ -5,7 +5,7 @@ use Rattle.folder_store.proofs.kept_file.cut_kept.Goals as goal
 
 pub returns-clause-cuts : goal.returns-clause-cuts
 returns-clause-cuts g c = λ s.
-    let cut = c.cut_watched-answer.ensures s in
+    let cut = c.cut_watched-answer.ensures.cuts s in
     let first = c.in_ok-changed.ensures.opens cut.0 in (
       first.0,
       cuts_answer (g.C.FileCalls.tree c.args.calls.now) (g.C.FileCalls.tree c.cut_watched-answer.new.calls)
@@ -16,10 +16,10 @@ returns-clause-cuts g c = λ s.
 pub returns-clause-kept : goal.returns-clause-kept
 returns-clause-kept g c = keeps_open g.C.File.OpenHandle.opened (folder_of c.args.paths.now) _ _ (g.C.FileCalls.tree c.args.calls.now)
     (g.C.FileCalls.tree c.cut_watched-answer.new.calls) c.args.handles.now c.keep.new.self c.in_ok-changed.changed c.requires
-    (λ s. (c.in_ok-changed.ensures.opens (c.cut_watched-answer.ensures s).0).0) c.keep.ensures.0
+    (λ s. (c.in_ok-changed.ensures.opens (c.cut_watched-answer.ensures.cuts s).0).0) c.keep.ensures.0
     (c.keep.ensures.1 ∙ c.in_ok-changed.ensures.others.1)
     (λ s.
-    let cut = c.cut_watched-answer.ensures s in
+    let cut = c.cut_watched-answer.ensures.cuts s in
     let first = c.in_ok-changed.ensures.opens cut.0 in
     subst (λ (name : List ℕ). IsOpenedAt (g.C.FileCalls.tree c.cut_watched-answer.new.calls) (front_of (folder_of c.args.paths.now) ++ name)
     (g.C.File.OpenHandle.opened c.in_ok-changed.changed.file)) (sym first.2.1)

@@ -5,7 +5,7 @@ use Rattle.folder_store.proofs.kept_file.flush_kept.Goals as goal
 
 pub returns-in-Some-clause-flushes : goal.returns-in-Some-clause-flushes
 returns-in-Some-clause-flushes g c = λ s.
-    let done = c.flush_watched-answer.ensures s in
+    let done = c.flush_watched-answer.ensures.flushes s in
     let last = c.in-Some.ensures.last in (
       done.0,
       syncs_answer (g.C.FileCalls.tree c.args.calls.now) (g.C.FileCalls.tree c.flush_watched-answer.new.calls)
@@ -21,12 +21,12 @@ returns-in-Some-clause-kept g c =
     let last = c.in-Some.ensures.last in
     ⊎_elim (λ closed. keeps_none g.C.File.OpenHandle.opened (folder_of c.args.paths.now) _ _ (g.C.FileCalls.tree c.args.calls.now)
     (g.C.FileCalls.tree c.flush_watched-answer.new.calls) c.args.handles.now c.keep_flushed.new.self c.requires
-    (λ s. (c.flush_watched-answer.ensures s).0) closed (c.keep_flushed.ensures.1 ∙ c.take_changed.ensures.taken.1))
+    (λ s. (c.flush_watched-answer.ensures.flushes s).0) closed (c.keep_flushed.ensures.1 ∙ c.take_changed.ensures.taken.1))
     (λ is. keeps_open g.C.File.OpenHandle.opened (folder_of c.args.paths.now) _ _ (g.C.FileCalls.tree c.args.calls.now)
     (g.C.FileCalls.tree c.flush_watched-answer.new.calls) c.args.handles.now c.keep_flushed.new.self c.in-Some.changed c.requires
-    (λ s. (c.flush_watched-answer.ensures s).0) is (c.keep_flushed.ensures.1 ∙ c.take_changed.ensures.taken.1)
+    (λ s. (c.flush_watched-answer.ensures.flushes s).0) is (c.keep_flushed.ensures.1 ∙ c.take_changed.ensures.taken.1)
     (λ s.
-    let done = c.flush_watched-answer.ensures s in
+    let done = c.flush_watched-answer.ensures.flushes s in
     let first = kept_opens g.C.File.OpenHandle.opened (folder_of c.args.paths.now) _
     (g.C.FileCalls.tree c.args.calls.now) c.args.handles.now
     c.in-Some.changed c.requires last.0 done.0 in

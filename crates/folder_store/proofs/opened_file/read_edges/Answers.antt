@@ -2,8 +2,8 @@ use Rattle.std.proofs.Common.{◌∙◌}
 use Rattle.folder_store.proofs.Changing.{edges_answer}
 use Rattle.folder_store.proofs.opened_file.read_edges.Goals as goal
 
-pub returns : goal.returns
-returns g c = λ s.
+pub returns-clause-measures : goal.returns-clause-measures
+returns-clause-measures g c = λ s.
     let read = c.edges_in.ensures s in
     let sized = c.in_ok-found.ensures.stats read.0 in
     let first = c.in_ok-file.ensures sized.0 in (
