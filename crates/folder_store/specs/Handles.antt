@@ -1,5 +1,6 @@
 -- What a folder has open.
-use Rattle.std.specs.Prelude.{◌≡◌, ◌⊎◌, ℕ, List, Option, None, Some, option_map, string_bytes}
+use Rattle.std.specs.Prelude.{◌≡◌, ◌⊎◌, ℕ, List, None, Some, Option, String, option_map, string_bytes}
+use Rattle.std.specs.Option.option_or
 use Rattle.folder_store.specs.declared.handles.{Changed.{Changed}, Handles.{Handles}}
 
 -- a handle is kept, or closed; the folder stays
@@ -9,3 +10,9 @@ KeepsOrCloses old new changed = ((new.changed ≡ None) ⊎ (new.changed ≡ Som
 -- the path of a folder whose names weren't flushed because the system flushes no folders
 abbrev pub unflushed_path : {F : Type 0} → Handles F → Option (List ℕ)
 unflushed_path handles = option_map string_bytes handles.unflushed
+
+-- the folders that hold what a path leads to by links were flushed; the first path of one that wasn't is known
+abbrev pub FlushesTargets : {A : Type 0} → (List ℕ → Option (List ℕ) → Type 0) → List ℕ
+    → (old new : Option (String A)) → Type 0
+FlushesTargets {A = A} flushed path old new = (unflushed : Option (String A))
+    × flushed path (option_map string_bytes unflushed) × (new ≡ option_or old unflushed)

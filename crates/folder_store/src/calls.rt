@@ -1,4 +1,4 @@
-//! The calls of a file system, one a method, and what each promises.
+//! The calls of a file system, one a method but for those on links, and what each promises.
 
 use crate::exact_listing::ChangeTime;
 use std::io;
@@ -76,7 +76,7 @@ pub trait OpenHandle {
 
 /// A file system, as one device asks it, each call of which may be refused.
 pub trait FileCalls {
-    ghost use Rattle.std.specs.Prelude.{◌≡◌, ◌<◌, ◌≤◌, IfOk, length};
+    ghost use Rattle.std.specs.Prelude.{◌≡◌, ◌<◌, ◌≤◌, ℕ, IfOk, List, Option, length, option_map, string_bytes};
     ghost use Rattle.folder_store.specs.Calls.{
       Creates,
       Truncates,
@@ -95,6 +95,9 @@ pub trait FileCalls {
 
     // The files that its paths lead to.
     ghost tree: { Self → Tree };
+
+    // The folders that hold what a path leads to by links were flushed, but for the one at this path.
+    ghost flushed_targets: { Self → List ℕ → Option (List ℕ) → Type 0 };
 
     // The premise: so far the system did what its calls promise, and nobody else changed these files. It was asked for
     // each file by one path, written in one way, and for no file in a folder within one whose names it flushes:
@@ -126,7 +129,8 @@ pub trait FileCalls {
 
     /// lstat(2) and readlink(2) of a path and of what it leads to by links, and fsync(2) of the folders that hold that:
     /// the path of one that the system doesn't flush.
-    fn flush_targets(&self, path: &str) -> Result<Option<String>, Denial>;
+    fn flush_targets(&self, path: &str) -> Result<Option<String>, Denial>
+        ensures { IfOk result (λ unflushed. flushed_targets self.now path.now (option_map string_bytes unflushed)) };
 
     /// open(2) of what is there.
     fn open(&mut self, path: &str, access: Access) -> Result<Self::File, Denial>

@@ -1,6 +1,6 @@
 //! The files that a folder of a file system has open.
 
-ghost use Rattle.std.specs.Prelude.{◌≡◌, ◌↔◌, IfSome, IsTrue, None, Some, string_bytes};
+ghost use Rattle.std.specs.{Prelude.{◌≡◌, ◌↔◌, IfSome, IsTrue, None, Some, string_bytes}, Option.option_or};
 ghost use Rattle.folder_store.specs.Handles.{KeepsOrCloses};
 
 use crate::calls::FileStat;
@@ -80,7 +80,7 @@ impl<F: Drop> Handles<F> {
 
     /// Takes note of the path of a folder that the system doesn't flush, unless one is known.
     pub fn note_unflushed(&mut self, unflushed: Option<String>)
-        ensures { (self.new.changed ≡ self.old.changed) × (self.new.names ≡ self.old.names) }
+        ensures { self.new ≡ record self.old { unflushed = option_or self.old.unflushed unflushed } }
     {
         if self.unflushed.is_none() {
             self.unflushed = unflushed;

@@ -4,6 +4,7 @@ ghost use Rattle.std.specs.Prelude.{◌≡◌, ◌-◌, ◌≤◌, None, IfOk, I
 ghost use Rattle.folder_store.specs.{
   Calls.{AppendsOpened, AppendsSome, Creates, Truncates, FlushesFolder, Renames, Syncs, answered},
   FileFolder.{AppendsTo, CutsTo, FlushesFile, TellsFileSize},
+  Handles.FlushesTargets,
   HostPaths.{folder_of, path_named},
   Kept.{KeptHolds, OpensKept},
   Watch.{AppendsWatched, ChecksWatched, CutsWatched, NotesWatched},
@@ -338,7 +339,9 @@ pub fn flush_links<C: FileCalls>(
     handles: &mut Handles<C::File>,
     name: &str,
 ) -> Result<(), Denial>
-    ensures { (handles.new.changed ≡ handles.old.changed) × (handles.new.names ≡ handles.old.names) }
+    ensures flushes { OnOk result (FlushesTargets (C.flushed_targets calls.now) (path_named paths.now name.now)
+        handles.old.unflushed handles.new.unflushed) }
+    ensures others { (handles.new.changed ≡ handles.old.changed) × (handles.new.names ≡ handles.old.names) }
 {
     let path = paths.path_of(name)?;
     let unflushed = calls.flush_targets(path.as_str())?;
@@ -356,6 +359,8 @@ fn flush_anew<C: FileCalls>(
     ensures flushes { C.sound calls.new → C.sound calls.old
         × FlushesFile (C.tree calls.old).directory (path_named paths.now name.now) (answered result)
         (C.tree calls.new).directory }
+    ensures links { OnOk result (FlushesTargets (C.flushed_targets calls.new) (path_named paths.now name.now)
+        handles.old.unflushed handles.new.unflushed) }
     ensures others { (handles.new.changed ≡ handles.old.changed) × (handles.new.names ≡ handles.old.names) }
 {
     let file = open_regular(calls, paths, name, Access::Read)?;

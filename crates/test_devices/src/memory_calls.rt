@@ -321,6 +321,8 @@ impl FileCalls for MemoryCalls {
 
     ghost tree = { memory_tree };
 
+    ghost flushed_targets = { λ _ _ _. Unit {0} };
+
     ghost sound = { λ _. Unit {0} };
 
     fn create(&mut self, path: &str) -> Result<MemoryMade, Denial> {
