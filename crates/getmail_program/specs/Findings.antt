@@ -9,11 +9,15 @@ use Rattle.std.specs.{
   declared.io.ErrorKind.TheVariants.{PermissionDenied, WouldBlock},
 }
 use Rattle.session_parts.specs.declared.{
-  fault.{Fault.{Fault, TheVariants.{StoreRefused, SeenRefused}}, Why.{Why, TheVariants.{Missing, Refused, NotMbox}}},
+  fault.{Fault.{Fault, TheVariants.{ReadFailed, WriteFailed, StoreRefused, SeenRefused}}},
+  fault.Why.{Why, TheVariants.{Missing, Refused, NotMbox}},
   report.Outcome.{Outcome, TheVariants.Cut},
 }
 use Rattle.system_calls.specs.{Line.IsRefusalText, declared.refusal.Refusal.Refusal}
-use Rattle.getmail_program.specs.declared.findings.Findings.{Findings}
+use Rattle.getmail_program.specs.declared.findings.{
+  Device.{Device, TheVariants.{Link, Store, Record}},
+  Findings.Findings,
+}
 
 abbrev pub is_slash : ℕ → Bool
 is_slash octet = octet == 47
@@ -91,9 +95,20 @@ abbrev pub IsRefusedText : Option Refusal → List ℕ → Type 0
 IsRefusedText None text = text ≡ []
 IsRefusedText (Some refusal) text = IsWaited refusal text
 
--- what is noted of a cut, if reasons are asked for: what was refused to the fault's device, if that is known
+-- what a fault's call was refused to; of a store that isn't what it should be no call was refused
+abbrev pub device_of : Fault → Option Device
+device_of ReadFailed = Some Link
+device_of WriteFailed = Some Link
+device_of (StoreRefused Missing) = Some Store
+device_of (StoreRefused Refused) = Some Store
+device_of SeenRefused = Some Record
+device_of fault = None
+
+-- what is noted of a cut, if reasons are asked for: what was refused to the fault's device, if it is one's and that is
+-- known
 abbrev pub NotesOn : Bool → Outcome → List ℕ → List ℕ → List ℕ → Bool → Type 0
 NotesOn true (Cut fault) destination seen refused is_denied = (refusal told : Option Refusal)
+    × (device_of fault ≡ None → refusal ≡ None)
     × IsToldAt fault destination seen refusal told × IsRefusedText told refused × IsDenied told is_denied
 NotesOn asked outcome destination seen refused is_denied = (refused ≡ []) × (is_denied ≡ false)
 

@@ -1,5 +1,11 @@
 -- The session that a run holds.
-use Rattle.std.specs.{Prelude.{◌≡◌, ◌⊎◌, ◌&&◌, not, ℕ, Bool, true, false, List, Err}, List.list_any}
+use Rattle.std.specs.{
+  Prelude.{◌≡◌, ◌⊎◌, ◌&&◌, not, ℕ, Bool, true, false, List, Option, None, Some, Result, Ok, Err},
+  Fs.{IsDir, file_type},
+  IoError.error_kind,
+  List.list_any,
+  declared.{fs.attrs.Metadata.Metadata, io.{Error.Error, ErrorKind.{ErrorKind, TheVariants.{NotFound, OutOfMemory}}}},
+}
 use Rattle.pop3_wire.specs.declared.wire.Wire.{Ghosts as WireGhosts}
 use Rattle.mail_store.specs.{
   Devices.stored_in,
@@ -8,7 +14,8 @@ use Rattle.mail_store.specs.{
 }
 use Rattle.fetch_rules.specs.Plan.{fetches}
 use Rattle.session_parts.specs.{
-  declared.{fault.Fault.{Fault, TheVariants.NoMemory}, message_preview.MessagePreview.MessagePreview},
+  declared.{fault.Fault.{Fault, TheVariants.{NoMemory, StoreRefused}}, message_preview.MessagePreview.MessagePreview},
+  declared.fault.Why.TheVariants.{Missing, Refused},
   declared.{preview.Preview.Preview, work.Store.Store, report.Outcome.TheVariants.{Ended, Cut}},
   Durable.RunsSession,
   Account.{Holding, digits_of},
@@ -49,6 +56,18 @@ would_store told = not told.held && fetches told.step
 abbrev pub RefusesFile : Fault → Type 0
 RefusesFile fault = (fault ≡ NoMemory)
     ⊎ ((maildir left : InMaildir) × (name : List ℕ) × StartsFile maildir name (Err fault) left)
+
+-- the fault of a run to which a call on `tmp` is refused with an error of this kind
+abbrev pub fault_for : ErrorKind → Fault
+fault_for NotFound = StoreRefused Missing
+fault_for OutOfMemory = NoMemory
+fault_for kind = StoreRefused Refused
+
+-- by what was found in the place of `tmp`: a folder is no fault
+abbrev pub DoubtsFound : Result Metadata Error → Option Fault → Type 0
+DoubtsFound (Ok found) None = IsDir (file_type found)
+DoubtsFound (Ok found) (Some fault) = (IsDir (file_type found) → ⊥) × (fault ≡ StoreRefused Refused)
+DoubtsFound (Err error) doubt = doubt ≡ Some (fault_for (error_kind error))
 
 -- it is the fault of a run that would put one of these messages into its Maildir
 abbrev pub Doubts : Dest → List MessagePreview → Fault → Type 0

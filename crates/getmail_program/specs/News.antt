@@ -1,13 +1,14 @@
 -- What an unattended run writes of what it says.
 use Rattle.std.specs.{
   Prelude.{◌≡◌, ◌⊎◌, ◌≤◌, ◌&&◌, ◌||◌, ◌==◌, ℕ, Bool, true, false, not, List, [], ◌∷◌, ◌++◌, Option, None, Some},
-  Prelude.{Result, Ok, Err, bytes_eq, codes, drop, filter},
+  Prelude.{Result, Ok, Err, Vec, bytes_eq, codes, drop, filter},
   Prelude.{find, flat_map, is_some, length, map, max, option_map, if◌then◌else◌},
   Fmt.decimal,
+  Fs.{IsFile, file_type},
   List.before_first,
   Option.option_map_or,
   Str.is_utf8,
-  declared.{alloc.AllocError.AllocError, time.SystemTime.SystemTime},
+  declared.{alloc.AllocError.AllocError, fs.attrs.Metadata.Metadata, io.Error.Error, time.SystemTime.SystemTime},
 }
 use Rattle.httpdate.specs.{Date.{date_text, unix_secs}, declared.date.HttpDate.HttpDate}
 use Rattle.mail_terms.specs.Text.{is_line_feed}
@@ -324,3 +325,13 @@ abbrev pub LeavesToOther : (Result Told AllocError → Type 0) → (Option Syste
 LeavesToOther gave showed held false leaves = leaves ≡ false
 LeavesToOther gave showed held true leaves =
     (waiting : Waiting) × HasPatience gave showed held waiting × (leaves ≡ waiting.is_patient)
+
+-- ---- the file that keeps what was told
+
+-- what was found at its path is read if it is a file, which gave these octets or refused them
+abbrev pub ReadsFound : {Z : Type 0} → (List ℕ → Type 0) → Type 0 → Result Metadata Error
+    → Result (Option (Vec ℕ Z)) Error → Type 0
+ReadsFound gave refused (Ok found) (Ok None) = IsFile (file_type found) → ⊥
+ReadsFound gave refused (Ok found) (Ok (Some octets)) = IsFile (file_type found) × gave octets.items
+ReadsFound gave refused (Ok found) (Err error) = IsFile (file_type found) × refused
+ReadsFound gave refused (Err denied) result = result ≡ Err denied

@@ -1,11 +1,12 @@
 //! What would keep a run from storing messages although a preview of it found nothing wrong.
-ghost use Rattle.std.specs.{Prelude.{◌≡◌, ◌≢◌, IfSome}, IoError.error_kind, List.list_any};
-ghost use Rattle.getmail_program.specs.Holding.{Doubts, RefusesFile, SaysAhead, would_store};
+ghost use Rattle.std.specs.{Prelude.{◌≡◌, IfSome}, IoError.error_kind, List.list_any};
+ghost use Rattle.getmail_program.specs.Holding.{Doubts, DoubtsFound, RefusesFile, SaysAhead, fault_for, would_store};
 
 use crate::told::RunTerms;
 use fetch_rules::Dest;
 use fetch_session::{Fault, Outcome, Preview, Why};
 use getmail_setup::joined;
+use std::fs::Metadata;
 use std::io::{self, ErrorKind};
 use std::rt::Files;
 use std::vec::Vec;
@@ -16,16 +17,25 @@ const TMP: &str = "tmp";
 
 /// The fault of a run that is refused `tmp`, as its device would be that begins a file there.
 fn fault_of(error: &io::Error) -> Fault
+    ensures fault { result ≡ fault_for (error_kind error.now) }
     ensures refuses { RefusesFile result }
-    ensures missing { error_kind error.now ≡ ErrorKind.NotFound → result ≡ Fault.StoreRefused Why.Missing }
-    ensures memory { error_kind error.now ≡ ErrorKind.OutOfMemory → result ≡ Fault.NoMemory }
-    ensures other { error_kind error.now ≢ ErrorKind.NotFound → error_kind error.now ≢ ErrorKind.OutOfMemory
-        → result ≡ Fault.StoreRefused Why.Refused }
 {
     match error.kind() {
         ErrorKind::NotFound => Fault::StoreRefused(Why::Missing),
         ErrorKind::OutOfMemory => Fault::NoMemory,
         _ => Fault::StoreRefused(Why::Refused),
+    }
+}
+
+/// Why no message could be made in a Maildir, by what was found in the place of its `tmp`.
+fn doubt_by(found: &io::Result<Metadata>) -> Option<Fault>
+    ensures doubts { DoubtsFound found.now result }
+    ensures refuses { IfSome result RefusesFile }
+{
+    match found {
+        Ok(found) if found.is_dir() => None,
+        Ok(_) => Some(Fault::StoreRefused(Why::Refused)),
+        Err(error) => Some(fault_of(error)),
     }
 }
 
@@ -36,11 +46,12 @@ fn doubt_of_maildir<R: Files + AllocGlobal>(system: &System<'_, R>, path: &str) 
     let Ok(tmp) = joined(system.alloc(), path, TMP) else {
         return Some(Fault::NoMemory);
     };
-    match system.refusals.kept(system.stat(tmp.as_str())) {
-        Ok(metadata) if metadata.is_dir() => None,
-        Ok(_) => Some(fault_of(&system.refusals.refuse(tmp.as_str(), "not a folder"))),
-        Err(error) => Some(fault_of(&error)),
+    let found = system.refusals.kept(system.stat(tmp.as_str()));
+    let doubt = doubt_by(&found);
+    if doubt.is_some() && found.is_ok() {
+        let _ = system.refusals.refuse(tmp.as_str(), "not a folder");
     }
+    doubt
 }
 
 /// Whether a run would put a message into a Maildir.

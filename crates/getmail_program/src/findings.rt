@@ -1,6 +1,6 @@
 //! What was noted of a session that a fault cut.
 ghost use Rattle.std.specs.{
-  Prelude.{◌≡◌, ◌≤◌, ◌++◌, ◌↔◌, IfOk, IsSomeAnd, IsTrue, codes, length},
+  Prelude.{◌≡◌, ◌≤◌, ◌++◌, ◌↔◌, IfOk, IsSomeAnd, IsTrue, None, codes, length},
   IoError.error_kind,
   List.prefix_len,
   String.string_bytes,
@@ -18,6 +18,7 @@ ghost use Rattle.getmail_program.specs.Findings.{
   IsStorePlace,
   IsTextFront,
   IsWaited,
+  device_of,
   folder_end,
   is_in_name,
   is_slash,
@@ -216,13 +217,34 @@ fn is_denied(refusal: &Option<Refusal>) -> bool
     }
 }
 
-/// What was refused to the device that a fault is of. It is taken out.
-fn refusal_for(reasons: &Reasons, fault: &Fault) -> Option<Refusal> {
+/// What the system refuses calls to in a session.
+#[derive(Clone, Copy)]
+enum Device {
+    Link,
+    Store,
+    Record,
+}
+
+/// What a fault's call was refused to; none if no call was refused.
+fn device_of(fault: &Fault) -> Option<Device>
+    ensures { result ≡ device_of fault.now }
+{
     match fault {
-        Fault::ReadFailed | Fault::WriteFailed => reasons.link.take(),
-        Fault::StoreRefused(Why::Missing | Why::Refused) => reasons.store.take(),
-        Fault::SeenRefused => reasons.record.take(),
+        Fault::ReadFailed | Fault::WriteFailed => Some(Device::Link),
+        Fault::StoreRefused(Why::Missing | Why::Refused) => Some(Device::Store),
+        Fault::SeenRefused => Some(Device::Record),
         _ => None,
+    }
+}
+
+/// What was refused to the device that a fault is of. It is taken out.
+fn refusal_for(reasons: &Reasons, fault: &Fault) -> Option<Refusal>
+    ensures { device_of fault.now ≡ None → result ≡ None }
+{
+    match device_of(fault)? {
+        Device::Link => reasons.link.take(),
+        Device::Store => reasons.store.take(),
+        Device::Record => reasons.record.take(),
     }
 }
 

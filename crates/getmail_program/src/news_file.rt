@@ -1,11 +1,14 @@
 //! What unattended runs told before: the file that keeps it, and the clock by which it is told again.
 ghost use Rattle.std.specs.{
-  Prelude.{◌≡◌, ◌≢◌, ℕ, Bool, true, List, Option, Result, Ok, IfErr, IfOk, IsErr, MatchOption, unwrap_or},
+  Prelude.{◌≡◌, ◌≢◌, ℕ, Bool, true, List, Option, Some, Result, Ok, IfErr, IfOk, IfSome, IsErr, MatchOption, unwrap_or},
   IoError.error_kind,
+  String.string_bytes,
   declared.{alloc.AllocError.AllocError, time.SystemTime.SystemTime},
 };
+ghost use Rattle.mail_store.specs.Durable.{all_durable};
 ghost use Rattle.run_memory.specs.{Memory.{Told, nothing, told_in}, Times.is_void};
-ghost use Rattle.getmail_program.specs.News.{HasPatience, met_in};
+ghost use Rattle.getmail_setup.specs.Places.{IsToldPath};
+ghost use Rattle.getmail_program.specs.News.{HasPatience, ReadsFound, met_in};
 
 use file_reading::ReadFile;
 use folder_store::{HostFile, ProcessMark};
@@ -14,6 +17,7 @@ use mail_store::FlatFile;
 use run_memory::{MOST_OCTETS, Memory};
 use std::alloc::{AllocError, Global};
 use std::env::Env;
+use std::fs::Metadata;
 use std::io::{self, ErrorKind};
 use std::process::Process;
 use std::random::RandomSource;
@@ -111,20 +115,32 @@ pub struct HostPast<'a, R> {
 }
 
 /// The path of the file that keeps what was told, if it is known.
-fn path_of<R: Env + AllocGlobal>(rt: &R, words: &Words) -> Option<String> {
+fn path_of<R: Env + AllocGlobal>(rt: &R, words: &Words) -> Option<String>
+    ensures { IfSome result (λ path. (home : Option (List ℕ)) × IsToldPath home words.now (string_bytes path)) }
+{
     let home = home(rt).ok()?;
     told_path(rt.alloc(), home.as_deref(), words).ok()
 }
 
-/// The octets at a path, if there is a file.
-fn octets_at<R: Files + AllocGlobal>(
-    system: &System<'_, R>,
+/// The octets at a path, if a file was found there.
+fn octets_at<F: ReadFile>(
+    files: &F,
     path: &str,
-) -> io::Result<Option<Vec<u8>>> {
-    if !system.refusals.kept(system.lstat(path))?.is_file() {
+    found: io::Result<Metadata>,
+) -> io::Result<Option<Vec<u8>>>
+    ensures { ReadsFound (F.gave files.now path.now MOST_OCTETS) (F.refused files.now path.now) found result }
+{
+    if !found?.is_file() {
         return Ok(None);
     }
-    Ok(Some(system.read(path, MOST_OCTETS)?))
+    Ok(Some(files.read(path, MOST_OCTETS)?))
+}
+
+/// Writes these octets to a file, and whether that was done.
+fn keep_in<F: FlatFile>(file: &mut F, octets: &[u8]) -> bool
+    ensures { result ≡ true → F.sound file.new → F.disk file.new ≡ all_durable (Some octets.now) }
+{
+    file.replace(octets).is_ok()
 }
 
 /// Writes these octets to the file at a path, and whether that was done.
@@ -140,14 +156,16 @@ fn keep_at<R: Files + Clock + RandomSource + AllocGlobal + Clone + Drop>(
     let refusals = Refusals::new(rt.alloc(), None);
     let system = System::new(rt, &refusals);
     let mut file = HostFile::at(&system, path, mark);
-    let is_kept = file.replace(octets).is_ok();
+    let is_kept = keep_in(&mut file, octets);
     file.sweep();
     is_kept
 }
 
 impl<'a, R: Env + AllocGlobal> HostPast<'a, R> {
     /// What is kept for the rc file that these words name.
-    pub fn new(rt: &'a R, process: Process, words: &Words) -> HostPast<'a, R> {
+    pub fn new(rt: &'a R, process: Process, words: &Words) -> HostPast<'a, R>
+        ensures { IfSome result.path (λ path. (home : Option (List ℕ)) × IsToldPath home words.now (string_bytes path)) }
+    {
         HostPast {
             rt,
             process,
@@ -172,10 +190,9 @@ where
             return Ok(Memory::new(alloc));
         };
         let refusals = Refusals::new(alloc, None);
-        memory_in(
-            alloc,
-            &octets_at(&System::new(self.rt, &refusals), path.as_str()),
-        )
+        let system = System::new(self.rt, &refusals);
+        let found = refusals.kept(system.lstat(path.as_str()));
+        memory_in(alloc, &octets_at(&system, path.as_str(), found))
     }
 
     fn keep(&self, octets: &[u8]) -> bool {

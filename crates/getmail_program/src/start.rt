@@ -1,9 +1,10 @@
 //! A run from its command line to its exit status.
 ghost use Rattle.std.specs.{
-  Prelude.{◌≡◌, ◌≤◌, ◌∷◌, ◌&&◌, ◌||◌, [], None, codes, false, map, not, option_map, true, IfErr, IfOk},
+  Prelude.{◌≡◌, ◌≤◌, ◌∷◌, ◌&&◌, ◌||◌, ℕ, List, [], Option, None, codes, false, map, not, option_map, true, IfErr},
+  Prelude.{IfOk, IfSome},
   String.string_bytes,
 };
-ghost use Rattle.getmail_setup.specs.Failures.{status_of};
+ghost use Rattle.getmail_setup.specs.{Failures.status_of, Places.IsRcPath};
 ghost use Rattle.system_calls.specs.declared.system.System.{System};
 ghost use Rattle.getmail_program.specs.{Fetching.Runs, News.name_or, Rehearsal.Rehearses, Starting.{LeadsTo, Starts}};
 
@@ -74,7 +75,9 @@ fn errors_shown<'a>(
 }
 
 /// The rc file's path, if it is known.
-fn rc_path_of<R: Env + AllocGlobal>(rt: &R, words: &Words) -> Option<String> {
+fn rc_path_of<R: Env + AllocGlobal>(rt: &R, words: &Words) -> Option<String>
+    ensures { IfSome result (λ path. (home : Option (List ℕ)) × IsRcPath home words.now (string_bytes path)) }
+{
     let alloc = rt.alloc();
     let home = home(rt).ok()?;
     let folder = folder(alloc, home.as_deref(), words.dir.as_deref()).ok()?;
