@@ -81,6 +81,9 @@ fn refused_at(alloc: Global, found: &Findings<'_>, path: &str) -> Result<Vec<u8>
 const NO_MBOX: &[u8] =
     b": it isn't empty, and has no `From ` at its front or no empty line at its end";
 
+/// What a line of a record's file isn't.
+const NO_LINE: &[u8] = b": a record has no such line";
+
 /// Where a fault is, with what the server said or the system refused, if that was noted: there is a text for
 /// each fault.
 fn reason_text(alloc: Global, fault: &Fault, found: &Findings<'_>) -> Result<Vec<u8>, AllocError>
@@ -117,13 +120,7 @@ fn reason_text(alloc: Global, fault: &Fault, found: &Findings<'_>) -> Result<Vec
         Fault::StoreRefused(_) => refused_at(alloc, found, found.destination),
         Fault::SeenRefused => refused_at(alloc, found, found.record),
         Fault::NoMemory => at_place(alloc, b"it ran out ", said),
-        Fault::BadSeen(_) => {
-            concat(
-                alloc,
-                found.record.as_bytes(),
-                b": a record has no such line",
-            )
-        }
+        Fault::BadSeen(_) => concat(alloc, found.record.as_bytes(), NO_LINE),
     }
 }
 
