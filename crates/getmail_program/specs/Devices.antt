@@ -1,7 +1,70 @@
--- Where the devices of a run are.
+-- Where the devices of a run are, and what they tell.
+use Rattle.std.specs.{
+  Prelude.{◌≡◌, ℕ, Bool, true, false, List, [], Option, None, Some, IsSomeAnd, Vec, codes},
+  Global.Global,
+}
+use Rattle.rc_file.specs.declared.settings.Dest.{Dest, TheVariants.{Maildir as ToMaildir, Mboxrd as ToMboxrd}}
 use Rattle.session_parts.specs.declared.work.Store.{Store, TheVariants.{Maildir, Mboxrd}}
+use Rattle.folder_store.specs.{
+  CutOff.has_others,
+  HostPaths.{AreInMaildir, IsFileAt},
+  declared.{
+    calls.{FileCalls.{Ghosts as CallGhosts}, MadeHandle.{Ghosts as MadeGhosts}, OpenHandle.{Ghosts as OpenGhosts}},
+    cut_off.CutOff.CutOff,
+    file.HostFile.HostFile,
+    file_folder.FolderState.{Ghosts as StateGhosts},
+    host.CallsFolder.CallsFolder,
+    host_folders.CallsFolders.CallsFolders,
+    host_shared.CallsShared.CallsShared,
+    maildir.FolderMaildir.FolderMaildir,
+    shared_calls.SharedCalls.{Ghosts as SharedGhosts},
+  },
+}
 
--- this holds of the Maildir, or of the mboxrd file, that a store is
-abbrev pub StoreIs : {D F : Type 0} → (D → Type 0) → (F → Type 0) → Store D F → Type 0
-StoreIs IsMaildir IsMbox (Maildir maildir) = IsMaildir maildir
-StoreIs IsMaildir IsMbox (Mboxrd mbox) = IsMbox mbox
+-- something is kept of what was cut off from an mboxrd file: of what this run cut off, unless that is known to have been
+-- appended since; of what an earlier one did, a run that had nothing to fetch says no
+abbrev pub KeepsRests : {F : Type 0} → Bool → Option (CutOff F) → Bool → Type 0
+KeepsRests is_idle None keeps = is_idle ≡ true → keeps ≡ false
+KeepsRests is_idle (Some kept) keeps =
+    (has_others kept ≡ true → keeps ≡ true) × (is_idle ≡ true → keeps ≡ has_others kept)
+
+module _ {C M O : Type 0} {calls : CallGhosts C M O} {made : MadeGhosts M} {open' : OpenGhosts O}
+    {state : StateGhosts (CallsFolder C M O calls made open')} where
+  -- a file over the machine's calls
+  abbrev pub RunFile : Type 0
+  RunFile = HostFile (CallsFolder C M O calls made open') state
+
+  -- it is the one at a path
+  abbrev pub IsAt : (path : List ℕ) → RunFile → Type 0
+  IsAt path file = IsFileAt file.folder.paths file.name.now path
+
+  module _ {R S N : Type 0} {shared : SharedGhosts (CallsShared R C M O calls made open') S} {drafts : MadeGhosts S} where
+    -- a store over the machine's calls
+    abbrev pub RunStore : Type 0
+    RunStore =
+        Store (FolderMaildir (CallsFolders (CallsShared R C M O calls made open') S shared drafts) N) RunFile
+
+    -- a store is made for a destination: a Maildir at its path; or an mboxrd file there, and what is cut off from it is
+    -- kept at another path
+    abbrev pub StoreFor : Dest → (path rests : List ℕ) → RunStore → Type 0
+    StoreFor (ToMaildir name) path rests (Maildir maildir) =
+        AreInMaildir maildir.folders.calls.new_folder.paths path (codes "new")
+        × AreInMaildir maildir.folders.calls.cur_folder.paths path (codes "cur")
+    StoreFor (ToMboxrd name) path rests (Mboxrd mbox) =
+        IsAt path mbox × IsSomeAnd mbox.cut_off (λ kept. IsFileAt kept.folder.paths kept.name.now rests)
+    StoreFor dest path rests store = ⊥
+
+    -- something is kept of what was cut off from it
+    abbrev pub StoreKeepsRests : Bool → RunStore → Bool → Type 0
+    StoreKeepsRests is_idle (Maildir maildir) keeps = keeps ≡ false
+    StoreKeepsRests is_idle (Mboxrd mbox) keeps = KeepsRests is_idle mbox.cut_off keeps
+
+    -- what bears the names of messages in a Maildir and can't be opened
+    abbrev pub obstructions_of : RunStore → List (Vec ℕ Global)
+    obstructions_of (Maildir maildir) = maildir.folders.calls.obstructions.items
+    obstructions_of (Mboxrd mbox) = []
+
+    -- a delivery into a Maildir was refused because something that is no file has its name
+    abbrev pub is_name_taken : RunStore → Bool
+    is_name_taken (Maildir maildir) = maildir.folders.is_name_taken
+    is_name_taken (Mboxrd mbox) = false

@@ -1,8 +1,7 @@
 //! The devices of a run on a machine's files, and the time there.
-ghost use Rattle.std.specs.{Prelude.{◌≡◌, [], IsSomeAnd, codes, false}, Option.{option_copied, option_or}};
-ghost use Rattle.session_parts.specs.Target.{NoneBegun, kind_of};
-ghost use Rattle.folder_store.specs.{Handles.unflushed_path, HostPaths.{AreInMaildir, IsFileAt}};
-ghost use Rattle.getmail_program.specs.{Devices.StoreIs, Holding.kind_in};
+ghost use Rattle.std.specs.Prelude.{◌≡◌};
+ghost use Rattle.session_parts.specs.Target.{NoneBegun};
+ghost use Rattle.getmail_program.specs.Devices.{IsAt, StoreFor, StoreKeepsRests, is_name_taken, obstructions_of};
 
 use fetch_rules::{Dest, Settings};
 use fetch_session::Store;
@@ -31,12 +30,7 @@ impl<'a, R: Files + Clock + AllocGlobal + Clone + Drop> HostDevices<'a, R> {
     /// mboxrd file is flushed once: what a loss of power left of one is found and cut off by the next run, and is kept
     /// beside the record.
     pub fn store(&self, dest: &Dest, path: &'a str, rests: &'a str) -> MachineStore<'a, R>
-        ensures made { StoreIs
-            (λ maildir. AreInMaildir maildir.folders.calls.new_folder.paths path.now (codes "new")
-            × AreInMaildir maildir.folders.calls.cur_folder.paths path.now (codes "cur"))
-            (λ mbox. IsFileAt mbox.folder.paths mbox.name.now path.now
-            × IsSomeAnd mbox.cut_off (λ kept. IsFileAt kept.folder.paths kept.name.now rests.now)) result }
-        ensures kind { kind_of result ≡ kind_in dest.now }
+        ensures made { StoreFor dest.now path.now rests.now result }
         ensures none_begun { NoneBegun ⟦<HostMaildir<'a, R> as MaildirDisk>⟧
             ⟦<MachineFile<'a, R> as FlatFile>⟧ result }
     {
@@ -49,7 +43,7 @@ impl<'a, R: Files + Clock + AllocGlobal + Clone + Drop> HostDevices<'a, R> {
 
     /// The file of its record.
     pub fn record_file(&self, path: &'a str) -> MachineFile<'a, R>
-        ensures { IsFileAt result.folder.paths result.name.now path.now }
+        ensures { IsAt path.now result }
     {
         HostFile::by_blocks(self.for_record, path, self.mark)
     }
@@ -62,7 +56,9 @@ impl<'a, R: Files + Clock + AllocGlobal + Clone + Drop> HostDevices<'a, R> {
     /// Whether something is kept of what was cut off from an mboxrd file and isn't known to have been a part of an
     /// entry that was appended since. If it is known, it is removed. Of what an earlier run cut off, a run that had
     /// nothing to fetch says no.
-    pub fn keeps_rests(&self, store: &MachineStore<'a, R>, is_idle: bool) -> bool {
+    pub fn keeps_rests(&self, store: &MachineStore<'a, R>, is_idle: bool) -> bool
+        ensures { StoreKeepsRests is_idle store.now result }
+    {
         let Store::Mboxrd(mbox) = store else {
             return false;
         };
@@ -72,8 +68,7 @@ impl<'a, R: Files + Clock + AllocGlobal + Clone + Drop> HostDevices<'a, R> {
 
     /// What bears the names of messages in a Maildir and can't be opened: the path of each, and why.
     pub fn obstructions<'b>(&self, store: &'b MachineStore<'a, R>) -> &'b [Vec<u8>]
-        ensures { StoreIs (λ maildir. result.now ≡ maildir.folders.obstructions.items) (λ _. result.now ≡ [])
-            store.now }
+        ensures { result.now ≡ obstructions_of store.entry.now }
     {
         match store {
             Store::Maildir(maildir) => maildir.obstructions(),
@@ -83,7 +78,7 @@ impl<'a, R: Files + Clock + AllocGlobal + Clone + Drop> HostDevices<'a, R> {
 
     /// Whether a delivery into a Maildir was refused because something that is no file has its name.
     pub fn is_name_taken(&self, store: &MachineStore<'a, R>) -> bool
-        ensures { StoreIs (λ maildir. result ≡ maildir.folders.is_name_taken) (λ _. result ≡ false) store.now }
+        ensures { result ≡ is_name_taken store.now }
     {
         match store {
             Store::Maildir(maildir) => maildir.is_name_taken(),
@@ -92,18 +87,11 @@ impl<'a, R: Files + Clock + AllocGlobal + Clone + Drop> HostDevices<'a, R> {
     }
 
     /// The path of a folder whose names weren't flushed because the system flushes no folders, if there is one.
-    pub fn unflushed<'b>(
+    pub fn unflushed(
         &self,
-        store: &'b MachineStore<'a, R>,
-        seen_file: &'b MachineFile<'a, R>,
-    ) -> Option<&'b str>
-        ensures { StoreIs
-            (λ maildir. option_copied result ≡ option_or
-            (option_or (unflushed_path maildir.folders.calls.new_folder.handles)
-            (unflushed_path maildir.folders.calls.cur_folder.handles)) (unflushed_path seen_file.now.folder.handles))
-            (λ mbox. option_copied result ≡ option_or (unflushed_path mbox.folder.handles)
-            (unflushed_path seen_file.now.folder.handles)) store.now }
-    {
+        store: &MachineStore<'a, R>,
+        seen_file: &MachineFile<'a, R>,
+    ) -> Option<String> {
         let in_store = match store {
             Store::Maildir(maildir) => maildir.unflushed(),
             Store::Mboxrd(mbox) => mbox.unflushed(),

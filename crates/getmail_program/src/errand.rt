@@ -1,10 +1,10 @@
 //! A run over devices that are made for it.
 ghost use Rattle.std.specs.{
-  Option.option_copied,
-  Prelude.{◌≡◌, ◌≤◌, ◌==◌, ◌&&◌, ℕ, IsSomeAnd, List, Some, codes, is_some, not, option_map},
+  Prelude.{◌≡◌, ◌≤◌, ◌==◌, ◌&&◌, ℕ, List, None, Some, false, is_some, not, option_map},
+  String.string_bytes,
 };
 ghost use Rattle.rc_file.specs.Settings.{IsValid};
-ghost use Rattle.session_parts.specs.{Account.IsSameAccount, Hearing.IsPlanOf, Target.kind_of};
+ghost use Rattle.session_parts.specs.{Account.IsSameAccount, Hearing.IsPlanOf};
 ghost use Rattle.getmail_setup.specs.{
   Clock.second_of,
   Failures.cause_line,
@@ -13,11 +13,10 @@ ghost use Rattle.getmail_setup.specs.{
   Progress.{IsShownOn, screen_for},
   declared.journal.Subject.Subject,
 };
-ghost use Rattle.folder_store.specs.HostPaths.{AreInMaildir, IsFileAt};
 ghost use Rattle.getmail_program.specs.{
-  Devices.StoreIs,
+  Devices.{IsAt, StoreFor, is_name_taken},
   Fetching.{FetchesAt, FetchesInto, TellsOf},
-  Holding.{HoldsSession, holding_of, kind_in},
+  Holding.{HoldsSession, holding_of},
   Noticing.{TakesEach, obstruction_lines, refusal_lines, rests_lines, unflushed_lines},
   Telling.{TellsAll, counts_of},
   declared.told.Told.Told,
@@ -128,12 +127,12 @@ fn tell_store_refusal<N: Notices>(settings: &Settings, reason: Option<Vec<u8>>, 
 
 /// Tells of a folder whose names weren't flushed because the system flushes no folders, if there is one: a loss of
 /// power may take back what was put there.
-fn tell_unflushed<N: Notices>(settings: &Settings, path: Option<&str>, notices: &mut N)
-    ensures { TakesEach N.took (unflushed_lines settings.now (option_copied path)) notices.old notices.new }
+fn tell_unflushed<N: Notices>(settings: &Settings, path: Option<String>, notices: &mut N)
+    ensures { TakesEach N.took (unflushed_lines settings.now (option_map string_bytes path)) notices.old notices.new }
 {
     if let Some(path) = path {
         let reason = b": its file system flushes no folders";
-        notices.take_line(settings, Subject::Notice, path, reason);
+        notices.take_line(settings, Subject::Notice, path.as_str(), reason);
     }
 }
 
@@ -144,7 +143,9 @@ fn name_refusal<'a, R: Files + Clock + AllocGlobal + Clone + Drop>(
     devices: &HostDevices<'a, R>,
     store: &MachineStore<'a, R>,
     reasons: &Reasons,
-) -> Option<Vec<u8>> {
+) -> Option<Vec<u8>>
+    ensures { is_name_taken store.now ≡ false → result ≡ None }
+{
     if !devices.is_name_taken(store) {
         return None;
     }
@@ -300,13 +301,7 @@ where
     ensures within { result ≤ 1 }
     ensures fetches { (told : Told)
         × (fetched : FetchesAt W.Wire ⟦<HostMaildir<'a, R> as MaildirDisk>⟧ ⟦<MachineFile<'a, R> as FlatFile>⟧
-        (λ dest path rests store. (kind_of store ≡ kind_in dest) × StoreIs
-        (λ maildir. AreInMaildir maildir.folders.calls.new_folder.paths path (codes "new")
-        × AreInMaildir maildir.folders.calls.cur_folder.paths path (codes "cur"))
-        (λ mbox. IsFileAt mbox.folder.paths mbox.name.now path
-        × IsSomeAnd mbox.cut_off (λ kept. IsFileAt kept.folder.paths kept.name.now rests)) store)
-        (λ path file. IsFileAt file.folder.paths file.name.now path)
-        errand.entry.settings errand.entry.paths.now errand.entry.pretends time link.wire told)
+        StoreFor IsAt errand.entry.settings errand.entry.paths.now errand.entry.pretends time link.wire told)
         × TellsOf O.contents E.contents errand.entry.settings errand.entry.paths.now
         (IsPlanOf W.Wire ⟦<HostMaildir<'a, R> as MaildirDisk>⟧ ⟦<MachineFile<'a, R> as FlatFile>⟧ (second_of time)
         (holding_of errand.entry.settings fetched.store fetched.seen_file) link.wire fetched.left fetched.wire')
