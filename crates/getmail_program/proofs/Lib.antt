@@ -2,4 +2,5 @@ mod EarlyLemmas
 mod ErrandLemmas
 mod FindingsLemmas
 mod NewsLemmas
+mod NoticingLemmas
 mod OutputLemmas

@@ -20,6 +20,7 @@ use Rattle.folder_store.specs.{
     shared_calls.SharedCalls.{Ghosts as SharedGhosts},
   },
 }
+use Rattle.getmail_program.specs.declared.errand.Noticed.{Noticed}
 
 -- something is kept of what was cut off from an mboxrd file: of what this run cut off, unless that is known to have been
 -- appended since; of what an earlier one did, a run that had nothing to fetch says no
@@ -68,3 +69,10 @@ module _ {C M O : Type 0} {calls : CallGhosts C M O} {made : MadeGhosts M} {open
     abbrev pub is_name_taken : RunStore → Bool
     is_name_taken (Maildir maildir) = maildir.folders.is_name_taken
     is_name_taken (Mboxrd mbox) = false
+
+    -- this was noticed of a run's devices; of a folder whose names weren't flushed only if reasons are asked for
+    pub record IsNoticed (says_why is_idle : Bool) (store : RunStore) (noticed : Noticed) : Type 0 where
+      pub rests : StoreKeepsRests is_idle store noticed.keeps_rests
+      pub obstructions : noticed.obstructions.now ≡ obstructions_of store
+      pub refusal : is_name_taken store ≡ false → noticed.refusal ≡ None
+      pub unflushed : says_why ≡ false → noticed.unflushed ≡ None

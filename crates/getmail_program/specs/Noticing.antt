@@ -1,12 +1,14 @@
 -- What a run tells beside its fault, line by line.
 use Rattle.std.specs.{
-  Prelude.{◌≡◌, ℕ, Bool, true, false, List, [], ◌∷◌, Option, None, Some, Vec, codes},
+  Prelude.{◌≡◌, ℕ, Bool, true, false, List, [], ◌∷◌, ◌++◌, Option, None, Some, Vec, codes, option_map},
+  String.string_bytes,
 }
 use Rattle.rc_file.specs.declared.settings.Settings.{Settings}
 use Rattle.getmail_setup.specs.{
   Failures.cause_line,
   declared.journal.Subject.{Subject, TheVariants.{Notice, Lasting}},
 }
+use Rattle.getmail_program.specs.declared.errand.Noticed.{Noticed}
 
 -- a line, and what it is about
 pub record NoticeLine : Type 0 where
@@ -45,3 +47,10 @@ abbrev pub unflushed_lines : Settings → Option (List ℕ) → List NoticeLine
 unflushed_lines settings None = []
 unflushed_lines settings (Some path) =
     line_about settings Notice path (codes ": its file system flushes no folders") ∷ []
+
+-- all that was noticed of a run's devices
+abbrev pub noticed_lines : Settings → List ℕ → Noticed → List NoticeLine
+noticed_lines settings rests noticed = rests_lines settings noticed.keeps_rests rests
+    ++ (obstruction_lines settings noticed.obstructions.now
+    ++ (refusal_lines settings (option_map (λ reason. reason.items) noticed.refusal)
+    ++ unflushed_lines settings (option_map string_bytes noticed.unflushed)))

@@ -14,12 +14,12 @@ ghost use Rattle.getmail_setup.specs.{
   declared.journal.Subject.Subject,
 };
 ghost use Rattle.getmail_program.specs.{
-  Devices.{IsAt, StoreFor, is_name_taken},
+  Devices.{IsAt, IsNoticed, StoreFor, is_name_taken},
   Fetching.{FetchesAt, FetchesInto, TellsOf},
   Holding.{HoldsSession, holding_of},
-  Noticing.{TakesEach, obstruction_lines, refusal_lines, rests_lines, unflushed_lines},
+  Noticing.{TakesEach, noticed_lines, obstruction_lines, refusal_lines, rests_lines, unflushed_lines},
   Telling.{TellsAll, counts_of},
-  declared.told.Told.Told,
+  declared.{errand.Noticed.Noticed, told.Told.Told},
 };
 
 use crate::devices::{HostDevices, MachineFile, MachineStore};
@@ -152,6 +152,58 @@ fn name_refusal<'a, R: Files + Clock + AllocGlobal + Clone + Drop>(
     reasons.store.take()?.text(alloc).ok()
 }
 
+/// What was noticed of a run's devices that somebody should look at.
+#[derive(Drop)]
+struct Noticed<'b> {
+    /// Whether something is kept of what was cut off from an mboxrd file.
+    keeps_rests: bool,
+    /// What bears the name of a message in a Maildir and can't be opened: the path of each, and why.
+    obstructions: &'b [Vec<u8>],
+    /// Why the store refused the run, if that is known and wasn't told.
+    refusal: Option<Vec<u8>>,
+    /// The path of a folder whose names weren't flushed because the system flushes no folders, if there is one.
+    unflushed: Option<String>,
+}
+
+/// Tells what was noticed of a run's devices, line by line.
+fn tell_noticed<N: Notices>(settings: &Settings, rests: &str, noticed: Noticed<'_>, notices: &mut N)
+    ensures { TakesEach N.took (noticed_lines settings.now rests.now noticed.entry) notices.old notices.new }
+{
+    let Noticed {
+        keeps_rests,
+        obstructions,
+        refusal,
+        unflushed,
+    } = noticed;
+    tell_rests(settings, keeps_rests, rests, notices);
+    tell_obstructions(settings, obstructions, notices);
+    tell_store_refusal(settings, refusal, notices);
+    tell_unflushed(settings, unflushed, notices);
+}
+
+/// Looks at a run's devices after it. A folder whose names weren't flushed is looked for only if reasons are asked for.
+fn look_at<'a, 'b, R: Files + Clock + AllocGlobal + Clone + Drop>(
+    alloc: Global,
+    devices: &HostDevices<'a, R>,
+    left: &'b RunEnd<HostMaildir<'a, R>, MachineFile<'a, R>>,
+    says_why: bool,
+    reasons: &Reasons,
+) -> Noticed<'b>
+    ensures { IsNoticed says_why left.entry.now.fetched.is_idle left.entry.now.store result }
+{
+    let store = &left.store;
+    Noticed {
+        keeps_rests: devices.keeps_rests(store, left.fetched.is_idle),
+        obstructions: devices.obstructions(store),
+        refusal: name_refusal(alloc, devices, store, reasons),
+        unflushed: if says_why {
+            devices.unflushed(store, &left.seen_file)
+        } else {
+            None
+        },
+    }
+}
+
 /// Tells what a run left that somebody should look at, and removes what killed runs left, unless the run had nothing to
 /// fetch.
 fn finish<'a, R: Files + Clock + AllocGlobal + Clone + Drop, E: Write>(
@@ -160,23 +212,15 @@ fn finish<'a, R: Files + Clock + AllocGlobal + Clone + Drop, E: Write>(
     left: &RunEnd<HostMaildir<'a, R>, MachineFile<'a, R>>,
     rests: &str,
     errors: &mut Errors<'_, E>,
-) {
-    let RunEnd {
-        settings,
-        store,
-        seen_file,
-        fetched,
-    } = left;
-    let is_kept = devices.keeps_rests(store, fetched.is_idle);
-    tell_rests(settings, is_kept, rests, errors);
-    tell_obstructions(settings, devices.obstructions(store), errors);
-    let refusal = name_refusal(alloc, devices, store, errors.reasons);
-    tell_store_refusal(settings, refusal, errors);
-    if errors.says_why {
-        tell_unflushed(settings, devices.unflushed(store, seen_file), errors);
-    }
-    if !fetched.is_idle {
-        devices.sweep(settings, store, seen_file);
+)
+    ensures { (noticed : Noticed) × IsNoticed errors.old.says_why left.now.fetched.is_idle left.now.store noticed
+        × TakesEach ⟦<Errors<'static, E> as Notices>⟧.took (noticed_lines left.now.settings rests.now noticed)
+        errors.old errors.new }
+{
+    let noticed = look_at(alloc, devices, left, errors.says_why, errors.reasons);
+    tell_noticed(&left.settings, rests, noticed, errors);
+    if !left.fetched.is_idle {
+        devices.sweep(&left.settings, &left.store, &left.seen_file);
     }
 }
 
