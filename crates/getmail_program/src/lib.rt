@@ -19,9 +19,8 @@ mod teller;
 mod told;
 mod transcript;
 
-pub use devices::{HostDevices, MachineFile, MachineStore};
 pub use ending::Fetched;
-pub use errand::{Connected, Errand, fetch_at, fetch_into};
+pub use errand::fetch_into;
 pub use fetch::Machine;
 pub use rehearsal::rehearse;
 pub use start::{arguments, obey_command_line};
