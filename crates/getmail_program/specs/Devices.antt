@@ -1,12 +1,14 @@
 -- Where the devices of a run are, and what they tell.
 use Rattle.std.specs.{
-  Prelude.{◌≡◌, ℕ, Bool, true, false, List, [], Option, None, Some, IsSomeAnd, Vec, codes},
+  Option.{option_copied, option_or},
+  Prelude.{◌≡◌, ℕ, Bool, true, false, List, [], Option, None, Some, IsSomeAnd, Vec, codes, if◌then◌else◌},
   Global.Global,
 }
 use Rattle.rc_file.specs.declared.settings.Dest.{Dest, TheVariants.{Maildir as ToMaildir, Mboxrd as ToMboxrd}}
 use Rattle.session_parts.specs.declared.work.Store.{Store, TheVariants.{Maildir, Mboxrd}}
 use Rattle.folder_store.specs.{
   CutOff.has_others,
+  Handles.unflushed_path,
   HostPaths.{AreInMaildir, IsFileAt},
   declared.{
     calls.{FileCalls.{Ghosts as CallGhosts}, MadeHandle.{Ghosts as MadeGhosts}, OpenHandle.{Ghosts as OpenGhosts}},
@@ -62,7 +64,7 @@ module _ {C M O : Type 0} {calls : CallGhosts C M O} {made : MadeGhosts M} {open
 
     -- what bears the names of messages in a Maildir and can't be opened
     abbrev pub obstructions_of : RunStore → List (Vec ℕ Global)
-    obstructions_of (Maildir maildir) = maildir.folders.calls.obstructions.items
+    obstructions_of (Maildir maildir) = maildir.folders.obstructions.items
     obstructions_of (Mboxrd mbox) = []
 
     -- a delivery into a Maildir was refused because something that is no file has its name
@@ -70,9 +72,17 @@ module _ {C M O : Type 0} {calls : CallGhosts C M O} {made : MadeGhosts M} {open
     is_name_taken (Maildir maildir) = maildir.folders.is_name_taken
     is_name_taken (Mboxrd mbox) = false
 
+    -- the path of a folder whose names weren't flushed because the system flushes no folders: the store's first
+    abbrev pub unflushed_of : RunStore → RunFile → Option (List ℕ)
+    unflushed_of (Maildir maildir) seen_file = option_or
+        (option_or (unflushed_path maildir.folders.calls.new_folder.handles)
+        (unflushed_path maildir.folders.calls.cur_folder.handles)) (unflushed_path seen_file.folder.handles)
+    unflushed_of (Mboxrd mbox) seen_file = option_or (unflushed_path mbox.folder.handles)
+        (unflushed_path seen_file.folder.handles)
+
     -- this was noticed of a run's devices; of a folder whose names weren't flushed only if reasons are asked for
-    pub record IsNoticed (says_why is_idle : Bool) (store : RunStore) (noticed : Noticed) : Type 0 where
+    pub record IsNoticed (says_why is_idle : Bool) (store : RunStore) (seen_file : RunFile) (noticed : Noticed) : Type 0 where
       pub rests : StoreKeepsRests is_idle store noticed.keeps_rests
       pub obstructions : noticed.obstructions.now ≡ obstructions_of store
       pub refusal : is_name_taken store ≡ false → noticed.refusal ≡ None
-      pub unflushed : says_why ≡ false → noticed.unflushed ≡ None
+      pub unflushed : option_copied noticed.unflushed ≡ (if says_why then unflushed_of store seen_file else None)

@@ -1,7 +1,7 @@
 -- What a run tells beside its fault, line by line.
 use Rattle.std.specs.{
   Prelude.{◌≡◌, ℕ, Bool, true, false, List, [], ◌∷◌, ◌++◌, Option, None, Some, Vec, codes, option_map},
-  String.string_bytes,
+  Option.option_copied,
 }
 use Rattle.rc_file.specs.declared.settings.Settings.{Settings}
 use Rattle.getmail_setup.specs.{
@@ -53,4 +53,4 @@ abbrev pub noticed_lines : Settings → List ℕ → Noticed → List NoticeLine
 noticed_lines settings rests noticed = rests_lines settings noticed.keeps_rests rests
     ++ (obstruction_lines settings noticed.obstructions.now
     ++ (refusal_lines settings (option_map (λ reason. reason.items) noticed.refusal)
-    ++ unflushed_lines settings (option_map string_bytes noticed.unflushed)))
+    ++ unflushed_lines settings (option_copied noticed.unflushed)))

@@ -1,7 +1,14 @@
 //! The devices of a run on a machine's files, and the time there.
-ghost use Rattle.std.specs.Prelude.{◌≡◌};
+ghost use Rattle.std.specs.{Option.option_copied, Prelude.{◌≡◌}};
 ghost use Rattle.session_parts.specs.Target.{NoneBegun};
-ghost use Rattle.getmail_program.specs.Devices.{IsAt, StoreFor, StoreKeepsRests, is_name_taken, obstructions_of};
+ghost use Rattle.getmail_program.specs.Devices.{
+  IsAt,
+  StoreFor,
+  StoreKeepsRests,
+  is_name_taken,
+  obstructions_of,
+  unflushed_of,
+};
 
 use fetch_rules::{Dest, Settings};
 use fetch_session::Store;
@@ -87,11 +94,13 @@ impl<'a, R: Files + Clock + AllocGlobal + Clone + Drop> HostDevices<'a, R> {
     }
 
     /// The path of a folder whose names weren't flushed because the system flushes no folders, if there is one.
-    pub fn unflushed(
+    pub fn unflushed<'b>(
         &self,
-        store: &MachineStore<'a, R>,
-        seen_file: &MachineFile<'a, R>,
-    ) -> Option<String> {
+        store: &'b MachineStore<'a, R>,
+        seen_file: &'b MachineFile<'a, R>,
+    ) -> Option<&'b str>
+        ensures { option_copied result ≡ unflushed_of store.entry.now seen_file.entry.now }
+    {
         let in_store = match store {
             Store::Maildir(maildir) => maildir.unflushed(),
             Store::Mboxrd(mbox) => mbox.unflushed(),

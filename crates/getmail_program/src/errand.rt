@@ -1,7 +1,7 @@
 //! A run over devices that are made for it.
 ghost use Rattle.std.specs.{
+  Option.option_copied,
   Prelude.{◌≡◌, ◌≤◌, ◌==◌, ◌&&◌, ℕ, List, None, Some, false, is_some, not, option_map},
-  String.string_bytes,
 };
 ghost use Rattle.rc_file.specs.Settings.{IsValid};
 ghost use Rattle.session_parts.specs.{Account.IsSameAccount, Hearing.IsPlanOf};
@@ -127,12 +127,12 @@ fn tell_store_refusal<N: Notices>(settings: &Settings, reason: Option<Vec<u8>>, 
 
 /// Tells of a folder whose names weren't flushed because the system flushes no folders, if there is one: a loss of
 /// power may take back what was put there.
-fn tell_unflushed<N: Notices>(settings: &Settings, path: Option<String>, notices: &mut N)
-    ensures { TakesEach N.took (unflushed_lines settings.now (option_map string_bytes path)) notices.old notices.new }
+fn tell_unflushed<N: Notices>(settings: &Settings, path: Option<&str>, notices: &mut N)
+    ensures { TakesEach N.took (unflushed_lines settings.now (option_copied path)) notices.old notices.new }
 {
     if let Some(path) = path {
         let reason = b": its file system flushes no folders";
-        notices.take_line(settings, Subject::Notice, path.as_str(), reason);
+        notices.take_line(settings, Subject::Notice, path, reason);
     }
 }
 
@@ -162,7 +162,7 @@ struct Noticed<'b> {
     /// Why the store refused the run, if that is known and wasn't told.
     refusal: Option<Vec<u8>>,
     /// The path of a folder whose names weren't flushed because the system flushes no folders, if there is one.
-    unflushed: Option<String>,
+    unflushed: Option<&'b str>,
 }
 
 /// Tells what was noticed of a run's devices, line by line.
@@ -189,7 +189,7 @@ fn look_at<'a, 'b, R: Files + Clock + AllocGlobal + Clone + Drop>(
     says_why: bool,
     reasons: &Reasons,
 ) -> Noticed<'b>
-    ensures { IsNoticed says_why left.entry.now.fetched.is_idle left.entry.now.store result }
+    ensures { IsNoticed says_why left.entry.now.fetched.is_idle left.entry.now.store left.entry.now.seen_file result }
 {
     let store = &left.store;
     Noticed {
@@ -213,7 +213,8 @@ fn finish<'a, R: Files + Clock + AllocGlobal + Clone + Drop, E: Write>(
     rests: &str,
     errors: &mut Errors<'_, E>,
 )
-    ensures { (noticed : Noticed) × IsNoticed errors.old.says_why left.now.fetched.is_idle left.now.store noticed
+    ensures { (noticed : Noticed)
+        × IsNoticed errors.old.says_why left.now.fetched.is_idle left.now.store left.now.seen_file noticed
         × TakesEach ⟦<Errors<'static, E> as Notices>⟧.took (noticed_lines left.now.settings rests.now noticed)
         errors.old errors.new }
 {
