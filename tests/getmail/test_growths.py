@@ -146,6 +146,18 @@ class LeftOut(unittest.TestCase):
                     thread.join(programs.SECONDS)
 
 
+class Unlocked(unittest.TestCase):
+    def test_each_refused_growth(self):
+        """With reasons a run that goes on without a lock says so, whatever memory there is for the reason."""
+        for refusal in growths.refusals():
+            with Account(CLOSED_PORT) as account:
+                account.refuse_lock()
+                err = account.run("--why", **refusal.environment()).err
+                connects = b"getmail: cannot connect to " in err
+                self.assertTrue(b": no lock: " in err or not connects, f"growth {refusal.number} refused: {err}")
+        self.assertTrue(connects, "no run came to its connection")
+
+
 class CompletedSessions(unittest.TestCase):
     """After a run with a refused growth the next one, with nothing refused, leaves each message once."""
 

@@ -54,11 +54,11 @@ account_front (Some settings) = account_name settings ++ codes ": "
 abbrev pub cause_line : Option Settings → List ℕ → List ℕ → List ℕ
 cause_line account words reason = codes "getmail: " ++ (account_front account ++ (words ++ (reason ++ codes "\n")))
 
--- what is said of a run that goes on without a lock: nothing or, if reasons are asked for, a line with the reason
+-- what is said of a run that goes on without a lock: a line with a reason, if reasons are asked for
 abbrev pub IsToldUnlocked : Bool → Settings → List ℕ → Type 0
 IsToldUnlocked false settings text = text ≡ []
 IsToldUnlocked true settings text =
-    (text ≡ []) ⊎ ((reason : List ℕ) × (text ≡ cause_line (Some settings) (codes "no lock: ") reason))
+    (reason : List ℕ) × (text ≡ cause_line (Some settings) (codes "no lock: ") reason)
 
 -- the warning of a connection that leaves this machine, if reasons are asked for
 abbrev pub network_warning : Bool → Settings → List ℕ

@@ -40,7 +40,7 @@ abbrev pub goes_on : Lock → Bool
 goes_on Elsewhere = false
 goes_on lock = true
 
--- a run that has no lock though it wants one tells so, and nothing else is told
+-- a run that has no lock though it wants one tells so, if reasons are asked for, and nothing else is told
 abbrev pub TellsUnlocked : {E : Type 0} → (E → Option (List ℕ)) → Bool → Setup → Errors E → Errors E → Type 0
 TellsUnlocked contents true setup old new = new ≡ old
 TellsUnlocked contents false setup old new =

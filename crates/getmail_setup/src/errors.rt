@@ -183,7 +183,7 @@ pub fn tell_reason<E: Write>(
     err.put(b"\n");
 }
 
-/// Writes why a run goes on without a lock, if that is known and reasons are to be written.
+/// Writes why a run goes on without a lock, if reasons are to be written. Where nothing was noted, memory ran out.
 pub(crate) fn tell_unlocked<E: Write>(
     alloc: Global,
     settings: &Settings,
@@ -192,12 +192,16 @@ pub(crate) fn tell_unlocked<E: Write>(
     ensures { (text : List ℕ) × IsToldUnlocked errors.old.says_why settings.now text
         × Puts E.contents errors.old.err text errors.new.err }
 {
-    match (refused_before(alloc, errors.reasons), errors.says_why) {
-        (Some(reason), true) => {
-            tell_reason(Some(settings), "no lock: ", &reason, &mut errors.err);
-            errors.close(Subject::Notice);
-        }
-        _ => errors.err.put(b""),
+    let noted = refused_before(alloc, errors.reasons);
+    let reason = match &noted {
+        Some(reason) => reason.as_slice(),
+        None => b"out of memory",
+    };
+    if errors.says_why {
+        tell_reason(Some(settings), "no lock: ", reason, &mut errors.err);
+        errors.close(Subject::Notice);
+    } else {
+        errors.err.put(b"");
     }
 }
 
