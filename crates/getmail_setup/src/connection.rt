@@ -1,6 +1,6 @@
 //! The connection to the server: over TCP, or to a Unix socket on which a tunnel listens.
 ghost use Rattle.std.specs.{
-  Prelude.{◌≡◌, ◌↔◌, ℕ, List, IfErr, IfNone, IfOk, IfSome, IsFalse, None, OnErr, OnOk, Some, false, true, length},
+  Prelude.{◌≡◌, ◌⊎◌, ◌↔◌, ℕ, List, IfErr, IfNone, IfOk, IfSome, IsFalse, None, OnErr, OnOk, Some, false, true, length},
   Prelude.if◌then◌else◌,
   Duration.as_nanos,
   List.AllWithin,
@@ -248,7 +248,9 @@ pub fn connect<'a, R: Net<Stream = TcpStream> + AllocGlobal>(
     server: &'a str,
     port: u16,
 ) -> Result<Connection, Failure<'a>>
-    ensures { is_socket server.now ≡ true → IfOk result (λ connection. connection.leaves ≡ false) }
+    ensures near { is_socket server.now ≡ true → IfOk result (λ connection. connection.leaves ≡ false) }
+    ensures err { IfErr result (λ failure.
+        (failure ≡ Failure.NoMemory) ⊎ (failure ≡ Failure.CannotConnect server.entry port)) }
 {
     if !is_socket(server) {
         return match connect_over_tcp(&Tcp { rt, refusals }, server, port) {
