@@ -33,10 +33,13 @@ puts_both contents old mid new first second put more = record {
   stays = λ refused. more.stays (λ clean. refused (put.whole clean).0) ∙ put.stays refused;
 }
 
+pub front_none : (held : Option (List ℕ)) (octets : List ℕ) → WritesFront held held octets
+front_none held octets = record { front = []; rest = octets; is = refl; appends = Appends-nil held }
+
 pub puts_none : {W : Type 0} (contents : W → Option (List ℕ)) (old : Output W) → Puts contents old [] old
 puts_none contents old = record {
   whole = λ clean. (clean, Appends-nil (contents old.writer));
-  front = record { front = []; rest = []; is = refl; appends = Appends-nil (contents old.writer) };
+  front = front_none _ [];
   stays = λ _. refl;
 }
 

@@ -1,7 +1,8 @@
 -- What the line of progress says, and when it is shown.
 use Rattle.std.specs.{
-  Prelude.{◌≡◌, ◌⊎◌, ◌+◌, ◌-◌, ◌/◌, ◌%◌, ◌^◌, ◌==◌, ◌&&◌, ℕ, Bool, false, List, [], ◌∷◌, ◌++◌, codes},
-  Prelude.{Err, None, Ok, Option, Some, Result, length, min, nat_le, nat_lt, slice_get, unwrap_or, if◌then◌else◌},
+  Prelude.{◌≡◌, ◌⊎◌, ◌+◌, ◌-◌, ◌/◌, ◌%◌, ◌^◌, ◌==◌, ◌&&◌, ◌||◌, ℕ, Bool, false, true, List, [], ◌∷◌, ◌++◌, codes},
+  Prelude.{Err, None, Ok, Option, Some, Result, drop, length, min, nat_le, nat_lt, slice_get, unwrap_or},
+  Prelude.if◌then◌else◌,
   Fmt.decimal,
 }
 use Rattle.rc_file.specs.declared.settings.Settings.{Settings}
@@ -13,6 +14,7 @@ use Rattle.pop3_wire.specs.{
 }
 use Rattle.getmail_setup.specs.{
   Listed.without_end,
+  Output.WritesFront,
   declared.{errors.Errors.Errors, progress.Progress.Progress, shown_wire.ShownWire.ShownWire},
 }
 
@@ -109,6 +111,42 @@ is_due_line p asked = false
 abbrev pub due_after : Progress → Option Asked → ℕ
 due_after p (Some (Retr number)) = if nat_le p.due p.octets then min (p.octets + 65536) (2 ^ 64 - 1) else p.due
 due_after p asked = p.due
+
+-- as many blanks as the longest line has characters
+abbrev pub blanks : List ℕ
+blanks = codes "                                                "
+
+-- a line that is written over the last one
+abbrev pub line_over : List ℕ → List ℕ
+line_over text = codes "\r" ++ (text ++ drop (min (length text) 48) blanks)
+
+-- a line was written, or a front of it, since the rest was refused or memory ran out; or nothing was, as it isn't due
+abbrev pub WritesIf : Bool → Option (List ℕ) → Option (List ℕ) → List ℕ → Type 0
+WritesIf false old new line = new ≡ old
+WritesIf true old new line = WritesFront old new line
+
+-- a part was noted, and if the line is due then, it was written
+pub record ShowsNote {S : Type 0} (contents : S → Option (List ℕ)) (old : Progress) (part : Note) (screen : S)
+    (new : Progress) (due : Bool) (screen' : S) : Type 0 where
+  pub noted : Progress
+  pub notes : NotesProgress old part noted
+  pub due_is : due ≡ is_due_line noted noted.asked
+  pub next : new ≡ record noted { due = due_after noted noted.asked }
+  pub writes : WritesIf due (contents screen) (contents screen') (line_over (progress_text new))
+
+-- a part was noted where a line is shown, if there is a place for it
+abbrev pub ShowsDue : {W S : Type 0} → (S → Option (List ℕ)) → Option S → ShownWire W S → Note → ShownWire W S
+    → Type 0
+ShowsDue contents None old part new = new ≡ old
+ShowsDue {W} {S} contents (Some screen) old part new = (screen' : S) × (due : Bool)
+    × ShowsNote contents old.progress part screen new.progress due screen'
+    × (new.screen ≡ Some screen') × (new.is_shown ≡ (due || old.is_shown))
+
+-- the line was wiped, if one was shown
+abbrev pub Wipes : {S : Type 0} → (S → Option (List ℕ)) → Option S → Bool → Option S → Bool → Type 0
+Wipes contents None was screen' is = (screen' ≡ None) × (is ≡ was)
+Wipes {S} contents (Some screen) was screen' is = (is ≡ false) × ((left : S) × (screen' ≡ Some left)
+    × WritesIf was (contents screen) (contents left) (line_over [] ++ codes "\r"))
 
 -- a link shows here how far a fetch is of which nothing is known yet
 pub record IsShownOn {W S : Type 0} (screen : Option S) (wire : W) (shown : ShownWire W S) : Type 0 where

@@ -35,7 +35,7 @@ pub fn refusal_of(error: &io::Error) -> OutputRefusal
 
 /// Writes these octets, and flushes the writer. At an error a front of them may be written, and
 /// nothing else: `write_all` of std says nothing of what was written then.
-fn write_octets<W: Write>(writer: &mut W, octets: &[u8]) -> io::Result<()>
+pub(crate) fn write_octets<W: Write>(writer: &mut W, octets: &[u8]) -> io::Result<()>
     ensures wrote { OnOk result (Appends (W.contents writer.old) (W.contents writer.new) octets.now) }
     ensures front { WritesFront (W.contents writer.old) (W.contents writer.new) octets.now }
 {

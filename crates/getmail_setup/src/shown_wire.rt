@@ -1,12 +1,23 @@
 //! A link that shows progress on a terminal.
-ghost use Rattle.std.specs.Prelude.{◌≡◌, IsSomeAnd, None, option_map};
-ghost use Rattle.getmail_setup.specs.{Listed.IsFresh, Progress.IsShownOn};
+ghost use Rattle.std.specs.Prelude.{◌≡◌, IfOk, IsSomeAnd, None, option_map};
+ghost use Rattle.getmail_setup.specs.{
+  Listed.IsFresh,
+  Output.WritesFront,
+  Progress.{IsShownOn, ShowsNote, ShowsDue, Wipes, line_over},
+};
 
 use crate::listed::Listed;
+use crate::output::write_octets;
 use crate::progress::Progress;
 use pop3_wire::{Note, Wire, WireDown};
-use std::alloc::Global;
-use std::io::{self, Write};
+use std::alloc::{AllocError, Global};
+use std::io::Write;
+
+/// As many blanks as the longest line has characters.
+const BLANKS: &[u8] = b"                                                ";
+
+/// What wipes the line, and begins another one in its place.
+const WIPED: &[u8] = b"\r                                                \r";
 
 /// A link that passes each call on, and shows on a line of `screen` which message is coming and how
 /// much of it has come. The line is rewritten in place. Without a screen nothing is shown. A write
@@ -21,11 +32,43 @@ pub struct ShownWire<W, S> {
     listed: Option<Listed>,
 }
 
-/// Writes a line over the last one; no line is longer than 48 characters.
-fn write_line<S: Write>(alloc: Global, screen: &mut S, text: &str) -> io::Result<()> {
-    let line = format!(in alloc; "\r{text:<48}")?;
-    screen.write_all(line.as_bytes())?;
-    screen.flush()
+/// The octets of a line that is written over the last one; no line is longer than 48 characters.
+fn line_over(alloc: Global, text: &str) -> Result<Vec<u8>, AllocError>
+    ensures { IfOk result (λ line. line.items ≡ line_over text.now) }
+{
+    let text = text.as_bytes();
+    let rest = &BLANKS[text.len().min(48)..];
+    [b"\r".as_slice(), text, rest].concat(alloc)
+}
+
+/// Writes a line over the last one, if there is memory for it.
+fn write_line<S: Write>(alloc: Global, screen: &mut S, text: &str)
+    ensures { WritesFront (S.contents screen.old) (S.contents screen.new) (line_over text.now) }
+{
+    let line = match line_over(alloc, text) {
+        Ok(line) => line,
+        Err(_) => return,
+    };
+    let _ = write_octets(screen, line.as_slice());
+}
+
+/// Takes note of a part of the conversation, and writes the line if it is due. Returns whether it is.
+fn show_note<S: Write>(
+    alloc: Global,
+    progress: &mut Progress,
+    part: Note<'_>,
+    screen: &mut S,
+) -> bool
+    ensures { ShowsNote S.contents progress.old part.entry screen.old progress.new result screen.new }
+{
+    progress.note(part);
+    if !progress.is_due() {
+        return false;
+    }
+    if let Ok(text) = progress.text(alloc) {
+        write_line(alloc, screen, text.as_str());
+    }
+    true
 }
 
 impl<W: Wire, S: Write> ShownWire<W, S> {
@@ -59,37 +102,30 @@ impl<W: Wire, S: Write> ShownWire<W, S> {
         self.listed.as_ref()
     }
 
-    /// Takes note of a part of the conversation, and shows how far the fetch is, if it is time to. At the end
-    /// of a message the line is wiped: a line of the report may follow.
+    /// Takes note of a part of the conversation, and shows how far the fetch is, if it is time to.
     fn show(&mut self, part: Note<'_>)
         ensures same { self.new ≡ record self.old {
           screen = self.new.screen;
           progress = self.new.progress;
           is_shown = self.new.is_shown;
         } }
+        ensures shows { ShowsDue S.contents self.old.screen self.old part.entry self.new }
     {
         if let Some(screen) = &mut self.screen {
-            self.progress.note(part);
-            if self.progress.is_due() {
+            if show_note(self.alloc, &mut self.progress, part, screen) {
                 self.is_shown = true;
-                if let Ok(text) = self.progress.text(self.alloc) {
-                    let _ = write_line(self.alloc, screen, text.as_str());
-                }
             }
-        }
-        if let Note::Body { ended: true, .. } = part {
-            self.wipe();
         }
     }
 
     /// Wipes the line, so that something else can be written to the terminal.
     pub fn wipe(&mut self)
         ensures same { self.new ≡ record self.old { screen = self.new.screen; is_shown = self.new.is_shown } }
+        ensures wipes { Wipes S.contents self.old.screen self.old.is_shown self.new.screen self.new.is_shown }
     {
         if let Some(screen) = &mut self.screen {
             if self.is_shown {
-                let _ = write_line(self.alloc, screen, "");
-                let _ = screen.write_all(b"\r");
+                let _ = write_octets(screen, WIPED);
                 self.is_shown = false;
             }
         }
@@ -113,6 +149,10 @@ impl<W: Wire, S: Write> Wire for ShownWire<W, S> {
 
     fn note(&mut self, part: Note<'_>) {
         self.show(part);
+        // A line of the report may follow a message.
+        if let Note::Body { ended: true, .. } = part {
+            self.wipe();
+        }
         if let Some(listed) = &mut self.listed {
             listed.note(part);
         }
