@@ -24,8 +24,8 @@ use Rattle.folder_store.specs.{
 }
 use Rattle.getmail_program.specs.declared.errand.Noticed.{Noticed}
 
--- something is kept of what was cut off from an mboxrd file: of what this run cut off, unless that is known to have been
--- appended since; of what an earlier one did, a run that had nothing to fetch says no
+-- something is kept of what was cut off from an mboxrd file: of what this run cut off, unless that is known to have
+-- been appended since; of what an earlier one did, a run that had nothing to fetch says no
 abbrev pub KeepsRests : {F : Type 0} → Bool → Option (CutOff F) → Bool → Type 0
 KeepsRests is_idle None keeps = is_idle ≡ true → keeps ≡ false
 KeepsRests is_idle (Some kept) keeps =
@@ -41,7 +41,8 @@ module _ {C M O : Type 0} {calls : CallGhosts C M O} {made : MadeGhosts M} {open
   abbrev pub IsAt : (path : List ℕ) → RunFile → Type 0
   IsAt path file = IsFileAt file.folder.paths file.name.now path
 
-  module _ {R S N : Type 0} {shared : SharedGhosts (CallsShared R C M O calls made open') S} {drafts : MadeGhosts S} where
+  module _ {R S N : Type 0} {shared : SharedGhosts (CallsShared R C M O calls made open') S}
+      {drafts : MadeGhosts S} where
     -- a store over the machine's calls
     abbrev pub RunStore : Type 0
     RunStore =
@@ -81,7 +82,8 @@ module _ {C M O : Type 0} {calls : CallGhosts C M O} {made : MadeGhosts M} {open
         (unflushed_path seen_file.folder.handles)
 
     -- this was noticed of a run's devices; of a folder whose names weren't flushed only if reasons are asked for
-    pub record IsNoticed (says_why is_idle : Bool) (store : RunStore) (seen_file : RunFile) (noticed : Noticed) : Type 0 where
+    pub record IsNoticed (says_why is_idle : Bool) (store : RunStore) (seen_file : RunFile) (noticed : Noticed)
+        : Type 0 where
       pub rests : StoreKeepsRests is_idle store noticed.keeps_rests
       pub obstructions : noticed.obstructions.now ≡ obstructions_of store
       pub refusal : is_name_taken store ≡ false → noticed.refusal ≡ None

@@ -96,19 +96,19 @@ IsRefusedText None text = text ≡ []
 IsRefusedText (Some refusal) text = IsWaited refusal text
 
 -- what a fault's call was refused to; of a store that isn't what it should be no call was refused
-abbrev pub device_of : Fault → Option Device
-device_of ReadFailed = Some Link
-device_of WriteFailed = Some Link
-device_of (StoreRefused Missing) = Some Store
-device_of (StoreRefused Refused) = Some Store
-device_of SeenRefused = Some Record
-device_of fault = None
+abbrev pub faulty_device : Fault → Option Device
+faulty_device ReadFailed = Some Link
+faulty_device WriteFailed = Some Link
+faulty_device (StoreRefused Missing) = Some Store
+faulty_device (StoreRefused Refused) = Some Store
+faulty_device SeenRefused = Some Record
+faulty_device fault = None
 
 -- what is noted of a cut, if reasons are asked for: what was refused to the fault's device, if it is one's and that is
 -- known
 abbrev pub NotesOn : Bool → Outcome → List ℕ → List ℕ → List ℕ → Bool → Type 0
 NotesOn true (Cut fault) destination seen refused is_denied = (refusal told : Option Refusal)
-    × (device_of fault ≡ None → refusal ≡ None)
+    × (faulty_device fault ≡ None → refusal ≡ None)
     × IsToldAt fault destination seen refusal told × IsRefusedText told refused × IsDenied told is_denied
 NotesOn asked outcome destination seen refused is_denied = (refused ≡ []) × (is_denied ≡ false)
 

@@ -18,7 +18,7 @@ ghost use Rattle.getmail_program.specs.Findings.{
   IsStorePlace,
   IsTextFront,
   IsWaited,
-  device_of,
+  faulty_device,
   folder_end,
   is_in_name,
   is_slash,
@@ -226,8 +226,8 @@ enum Device {
 }
 
 /// What a fault's call was refused to; none if no call was refused.
-fn device_of(fault: &Fault) -> Option<Device>
-    ensures { result ≡ device_of fault.now }
+fn faulty_device(fault: &Fault) -> Option<Device>
+    ensures { result ≡ faulty_device fault.now }
 {
     match fault {
         Fault::ReadFailed | Fault::WriteFailed => Some(Device::Link),
@@ -239,9 +239,9 @@ fn device_of(fault: &Fault) -> Option<Device>
 
 /// What was refused to the device that a fault is of. It is taken out.
 fn refusal_for(reasons: &Reasons, fault: &Fault) -> Option<Refusal>
-    ensures { device_of fault.now ≡ None → result ≡ None }
+    ensures { faulty_device fault.now ≡ None → result ≡ None }
 {
-    match device_of(fault)? {
+    match faulty_device(fault)? {
         Device::Link => reasons.link.take(),
         Device::Store => reasons.store.take(),
         Device::Record => reasons.record.take(),

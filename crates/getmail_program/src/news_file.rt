@@ -164,7 +164,8 @@ fn keep_at<R: Files + Clock + RandomSource + AllocGlobal + Clone + Drop>(
 impl<'a, R: Env + AllocGlobal> HostPast<'a, R> {
     /// What is kept for the rc file that these words name.
     pub fn new(rt: &'a R, process: Process, words: &Words) -> HostPast<'a, R>
-        ensures { IfSome result.path (λ path. (home : Option (List ℕ)) × IsToldPath home words.now (string_bytes path)) }
+        ensures { IfSome result.path (λ path. (home : Option (List ℕ))
+            × IsToldPath home words.now (string_bytes path)) }
     {
         HostPast {
             rt,
