@@ -1,6 +1,6 @@
 -- What a folder has open.
 use Rattle.std.specs.Prelude.{◌≡◌, ◌⊎◌, ℕ, List, None, Some, Option, String, option_map, string_bytes}
-use Rattle.std.specs.Option.option_or
+use Rattle.std.specs.Option.{option_or}
 use Rattle.folder_store.specs.declared.handles.{Changed.{Changed}, Handles.{Handles}}
 
 -- a handle is kept, or closed; the folder stays
