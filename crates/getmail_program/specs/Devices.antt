@@ -33,24 +33,17 @@ KeepsRests is_idle (Some kept) keeps =
 
 module _ {C M O : Type 0} {calls : CallGhosts C M O} {made : MadeGhosts M} {open' : OpenGhosts O}
     {state : StateGhosts (CallsFolder C M O calls made open')} where
-  -- a file over the machine's calls
-  abbrev pub RunFile : Type 0
-  RunFile = HostFile (CallsFolder C M O calls made open') state
-
-  -- it is the one at a path
-  abbrev pub IsAt : (path : List ℕ) → RunFile → Type 0
+  -- a file is the one at a path
+  abbrev pub IsAt : (path : List ℕ) → HostFile (CallsFolder C M O calls made open') state → Type 0
   IsAt path file = IsFileAt file.folder.paths file.name.now path
 
   module _ {R S N : Type 0} {shared : SharedGhosts (CallsShared R C M O calls made open') S}
       {drafts : MadeGhosts S} where
-    -- a store over the machine's calls
-    abbrev pub RunStore : Type 0
-    RunStore =
-        Store (FolderMaildir (CallsFolders (CallsShared R C M O calls made open') S shared drafts) N) RunFile
-
     -- a store is made for a destination: a Maildir at its path; or an mboxrd file there, and what is cut off from it is
     -- kept at another path
-    abbrev pub StoreFor : Dest → (path rests : List ℕ) → RunStore → Type 0
+    abbrev pub StoreFor : Dest → (path rests : List ℕ)
+        → Store (FolderMaildir (CallsFolders (CallsShared R C M O calls made open') S shared drafts) N)
+        (HostFile (CallsFolder C M O calls made open') state) → Type 0
     StoreFor (ToMaildir name) path rests (Maildir maildir) =
         AreInMaildir maildir.folders.calls.new_folder.paths path (codes "new")
         × AreInMaildir maildir.folders.calls.cur_folder.paths path (codes "cur")
@@ -59,22 +52,31 @@ module _ {C M O : Type 0} {calls : CallGhosts C M O} {made : MadeGhosts M} {open
     StoreFor dest path rests store = ⊥
 
     -- something is kept of what was cut off from it
-    abbrev pub StoreKeepsRests : Bool → RunStore → Bool → Type 0
+    abbrev pub StoreKeepsRests : Bool
+        → Store (FolderMaildir (CallsFolders (CallsShared R C M O calls made open') S shared drafts) N)
+        (HostFile (CallsFolder C M O calls made open') state) → Bool → Type 0
     StoreKeepsRests is_idle (Maildir maildir) keeps = keeps ≡ false
     StoreKeepsRests is_idle (Mboxrd mbox) keeps = KeepsRests is_idle mbox.cut_off keeps
 
     -- what bears the names of messages in a Maildir and can't be opened
-    abbrev pub obstructions_of : RunStore → List (Vec ℕ Global)
+    abbrev pub obstructions_of :
+        Store (FolderMaildir (CallsFolders (CallsShared R C M O calls made open') S shared drafts) N)
+        (HostFile (CallsFolder C M O calls made open') state) → List (Vec ℕ Global)
     obstructions_of (Maildir maildir) = maildir.folders.obstructions.items
     obstructions_of (Mboxrd mbox) = []
 
     -- a delivery into a Maildir was refused because something that is no file has its name
-    abbrev pub is_name_taken : RunStore → Bool
+    abbrev pub is_name_taken :
+        Store (FolderMaildir (CallsFolders (CallsShared R C M O calls made open') S shared drafts) N)
+        (HostFile (CallsFolder C M O calls made open') state) → Bool
     is_name_taken (Maildir maildir) = maildir.folders.is_name_taken
     is_name_taken (Mboxrd mbox) = false
 
     -- the path of a folder whose names weren't flushed because the system flushes no folders: the store's first
-    abbrev pub unflushed_of : RunStore → RunFile → Option (List ℕ)
+    abbrev pub unflushed_of :
+        Store (FolderMaildir (CallsFolders (CallsShared R C M O calls made open') S shared drafts) N)
+        (HostFile (CallsFolder C M O calls made open') state)
+        → HostFile (CallsFolder C M O calls made open') state → Option (List ℕ)
     unflushed_of (Maildir maildir) seen_file = option_or
         (option_or (unflushed_path maildir.folders.calls.new_folder.handles)
         (unflushed_path maildir.folders.calls.cur_folder.handles)) (unflushed_path seen_file.folder.handles)
@@ -82,8 +84,10 @@ module _ {C M O : Type 0} {calls : CallGhosts C M O} {made : MadeGhosts M} {open
         (unflushed_path seen_file.folder.handles)
 
     -- this was noticed of a run's devices; of a folder whose names weren't flushed only if reasons are asked for
-    pub record IsNoticed (says_why is_idle : Bool) (store : RunStore) (seen_file : RunFile) (noticed : Noticed)
-        : Type 0 where
+    pub record IsNoticed (says_why is_idle : Bool)
+        (store : Store (FolderMaildir (CallsFolders (CallsShared R C M O calls made open') S shared drafts) N)
+        (HostFile (CallsFolder C M O calls made open') state))
+        (seen_file : HostFile (CallsFolder C M O calls made open') state) (noticed : Noticed) : Type 0 where
       pub rests : StoreKeepsRests is_idle store noticed.keeps_rests
       pub obstructions : noticed.obstructions.now ≡ obstructions_of store
       pub refusal : is_name_taken store ≡ false → noticed.refusal ≡ None
