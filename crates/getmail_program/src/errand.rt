@@ -128,7 +128,7 @@ fn tell_store_refusal<N: Notices>(settings: &Settings, reason: Option<Vec<u8>>, 
 /// Tells of a folder whose names weren't flushed because the system flushes no folders, if there is one: a loss of
 /// power may take back what was put there.
 fn tell_unflushed<N: Notices>(settings: &Settings, path: Option<&str>, notices: &mut N)
-    ensures { TakesEach N.took (unflushed_lines settings.now (option_copied path)) notices.old notices.new }
+    ensures { TakesEach N.took (unflushed_lines settings.now (option_copied path.entry)) notices.old notices.new }
 {
     if let Some(path) = path {
         let reason = b": its file system flushes no folders";
