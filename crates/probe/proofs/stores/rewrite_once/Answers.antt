@@ -1,13 +1,14 @@
-use Rattle.std.proofs.Common.{◌++◌, ap, arith, length-append}
-use Rattle.mail_store.specs.FlatFile.{Stored}
+use Rattle.std.proofs.Common.{◌++◌, ◌∙◌, ℕ, Some, ap, arith, length-append}
+use Rattle.mail_store.specs.Durable.{Blob, seen_on}
 use Rattle.probe.proofs.stores.rewrite_once.Goals as goal
 
--- the file has the text twice
+-- the text was appended to what the file had
 pub cut_to-requires : goal.cut_to-requires
 cut_to-requires g c = λ sound.
-    let appended = c.in_ok-append.ensures.appends sound in
-    let replaced = c.in_ok-replace.ensures.replaces appended.0 in
+    let (blob, _, _, is, grown) = (c.in_ok-append.ensures.appends sound).1 in
     let text = c.args.text.now in
-    let once = ap (λ (s : Stored). s.content) replaced.1 in
-    let twice = ap (λ (s : Stored). s.content) (appended.1 text once) in
-    (text ++ text, twice, omega (arith, length-append text text))
+    (
+      blob.content ++ text,
+      ap seen_on grown ∙ ap (λ (b : Blob). Some b.content) is,
+      omega (arith, length-append blob.content text),
+    )
