@@ -4,7 +4,7 @@ ghost use Rattle.std.specs.{
   Prelude.{◌≡◌, ◌≤◌, ◌==◌, ◌&&◌, ℕ, List, None, Some, false, is_some, not, option_map},
 };
 ghost use Rattle.rc_file.specs.Settings.{IsValid};
-ghost use Rattle.session_parts.specs.{Account.IsSameAccount, Hearing.IsPlanOf};
+ghost use Rattle.session_parts.specs.{Account.IsSameAccount, Hearing.IsPlanOf, Target.NoneBegun};
 ghost use Rattle.getmail_setup.specs.{
   Clock.second_of,
   Failures.cause_line,
@@ -299,30 +299,80 @@ pub fn fetch_into<W: Wire, D: MaildirDisk, F: FlatFile, O: Write, E: Write>(
     fetched
 }
 
-/// Does what `fetch_into` does, into a Maildir in the machine's files. It is apart from `fetch_at` since what is asked
-/// of both types together, of the Maildir and of the record's file, is too large a term.
-fn fetch_mail<'a, R, W, F, O, E>(
-    system: &System<'a, R>,
-    account: &mut Account<HostMaildir<'a, R>, F, impl BuildHasher>,
+/// What a session is held with.
+struct Readied<D, F, H> {
+    settings: Settings,
+    store: Store<D, F>,
+    seen_file: F,
+    hasher: H,
+}
+
+/// Does what `fetch_into` does, over an account that is made for it.
+fn fetch_account<W: Wire, D: MaildirDisk, F: FlatFile, H: BuildHasher + Drop, O: Write, E: Write>(
+    system: &System<'_, impl Files + AllocGlobal>,
+    readied: Readied<D, F, H>,
     wire: &mut ShownWire<W, impl Write>,
     terms: RunTerms<'_>,
     out: &mut Output<O>,
     errors: &mut Errors<'_, E>,
-) -> Fetched
+) -> RunEnd<D, F>
+    requires valid { IsValid readied.settings }
+    requires none_begun { NoneBegun D.MaildirDisk F.FlatFile readied.store }
+    ensures within { result.fetched.status ≤ 1 }
+    ensures same { IsSameAccount (holding_of readied.settings readied.store readied.seen_file)
+        (holding_of result.settings result.store result.seen_file) }
+    ensures fetched { (told : Told) × FetchesInto W.Wire D.MaildirDisk F.FlatFile O.contents E.contents
+        terms.entry.pretends terms.entry.explains terms.entry.now terms.entry.destination.now terms.entry.record.now
+        (holding_of readied.settings readied.store readied.seen_file) wire.old.wire told
+        (holding_of result.settings result.store result.seen_file) wire.new.wire out.old errors.old
+        result.fetched out.new errors.new }
+{
+    let Readied {
+        settings,
+        store,
+        seen_file,
+        hasher,
+    } = readied;
+    let mut account = Account::new(system.alloc(), settings, store, seen_file, hasher);
+    let fetched = fetch_into(system, &mut account, wire, terms, out, errors);
+    let (settings, store, seen_file) = account.into_parts();
+    RunEnd {
+        settings,
+        store,
+        seen_file,
+        fetched,
+    }
+}
+
+/// Does what `fetch_account` does, into a Maildir in the machine's files. It is apart from `fetch_at` since what is
+/// asked of both types together, of the Maildir and of the record's file, is too large a term.
+fn fetch_mail<'a, R, W, F, H, O, E>(
+    system: &System<'a, R>,
+    readied: Readied<HostMaildir<'a, R>, F, H>,
+    wire: &mut ShownWire<W, impl Write>,
+    terms: RunTerms<'_>,
+    out: &mut Output<O>,
+    errors: &mut Errors<'_, E>,
+) -> RunEnd<HostMaildir<'a, R>, F>
 where
     R: Files + Clock + AllocGlobal + Clone + Drop + 'a,
     W: Wire,
     F: FlatFile,
+    H: BuildHasher + Drop,
     O: Write,
     E: Write,
-    ensures within { result.status ≤ 1 }
-    ensures same { IsSameAccount account.old account.new }
+    requires valid { IsValid readied.settings }
+    requires none_begun { NoneBegun ⟦<HostMaildir<'a, R> as MaildirDisk>⟧ F.FlatFile readied.store }
+    ensures within { result.fetched.status ≤ 1 }
+    ensures same { IsSameAccount (holding_of readied.entry.settings readied.entry.store readied.entry.seen_file)
+        (holding_of result.settings result.store result.seen_file) }
     ensures fetched { (told : Told) × FetchesInto W.Wire ⟦<HostMaildir<'a, R> as MaildirDisk>⟧ F.FlatFile O.contents
         E.contents terms.entry.pretends terms.entry.explains terms.entry.now terms.entry.destination.now
-        terms.entry.record.now account.old wire.old.wire told account.new wire.new.wire out.old errors.old
-        result out.new errors.new }
+        terms.entry.record.now (holding_of readied.entry.settings readied.entry.store readied.entry.seen_file)
+        wire.old.wire told (holding_of result.settings result.store result.seen_file) wire.new.wire out.old errors.old
+        result.fetched out.new errors.new }
 {
-    fetch_into(system, account, wire, terms, out, errors)
+    fetch_account(system, readied, wire, terms, out, errors)
 }
 
 /// Runs one session over the machine's files, or only previews it, and returns the exit status. The time is what the
@@ -366,7 +416,12 @@ where
     let record = paths.record.as_str();
     let store = devices.store(&settings.dest, destination, rests);
     let seen_file = devices.record_file(record);
-    let mut account = Account::new(alloc, settings, store, seen_file, hasher);
+    let readied = Readied {
+        settings,
+        store,
+        seen_file,
+        hasher,
+    };
     let terms = RunTerms {
         now: second_of(time),
         destination,
@@ -375,14 +430,7 @@ where
         explains: errors.explains,
         journal: errors.journal,
     };
-    let fetched = fetch_mail(system, &mut account, &mut wire, terms, out, &mut errors);
-    let (settings, store, seen_file) = account.into_parts();
-    let left = RunEnd {
-        settings,
-        store,
-        seen_file,
-        fetched,
-    };
+    let left = fetch_mail(system, readied, &mut wire, terms, out, &mut errors);
     finish(alloc, devices, &left, rests, &mut errors);
     left.into_status()
 }

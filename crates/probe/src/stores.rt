@@ -4,7 +4,10 @@ use crate::mbox;
 use crate::record::{add_row, scan_rows};
 use crate::stopwatch::Stopwatch;
 use crate::trouble::{Result, Trouble};
-use folder_store::{HostFile, HostFolder, HostMaildir, ProcessMark};
+use folder_store::{
+    CallsFolders, FolderMaildir, HostFile, HostFolder, HostMaildir, MailFolders, NewFile,
+    ProcessMark,
+};
 use mail_store::{FlatFile, MaildirDisk, account_id, deliver, file_stem, held};
 use mail_terms::{Listing, UidRows, is_legal_id};
 use std::alloc::Global;
@@ -88,6 +91,18 @@ fn use_maildir<D: MaildirDisk + Drop>(
     }
 }
 
+/// Makes the calls of this name on the Maildir of folders of which nothing is known.
+fn use_folders<F: MailFolders<File = N> + Drop, N: NewFile + Drop>(
+    rt: &HostRuntime,
+    call: &str,
+    folders: F,
+    count: u32,
+) -> Result<()>
+    requires { F.sound folders → ⊥ }
+{
+    use_maildir(rt, call, FolderMaildir::over(rt.alloc(), folders), count)
+}
+
 /// Makes the calls of this name on the Maildir at a path of any file system, of which nothing is known.
 fn use_maildir_over<R: Files + Clock + AllocGlobal + Clone + Drop>(
     rt: &HostRuntime,
@@ -99,7 +114,12 @@ fn use_maildir_over<R: Files + Clock + AllocGlobal + Clone + Drop>(
     let mark = mark_of(rt)?;
     let refusals = Refusals::new(rt.alloc(), None);
     let system = System::new(files, &refusals);
-    use_maildir(rt, call, HostMaildir::at(&system, path, mark), count)
+    use_folders(
+        rt,
+        call,
+        CallsFolders::of_maildir(&system, path, mark),
+        count,
+    )
 }
 
 /// Makes the calls of this name on the Maildir at a path.
