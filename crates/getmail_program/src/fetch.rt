@@ -71,8 +71,8 @@ fn prepare<'a, R: RandomSource + AllocGlobal>(
     }
 }
 
-/// Runs one session over the machine's files, or only previews it, with the lock held, and returns the exit status. It
-/// is apart since the requirement of `fetch_at` is too large a term where the link's type is known too.
+/// Runs one session over the machine's files, or only previews it, and returns the exit status. It takes the lock: by
+/// its requirement no session is held while another run has it.
 fn fetch_setup<'a, R, E, W, H, O>(
     devices: &HostDevices<'a, R>,
     _lock: &Lock,
