@@ -1,9 +1,9 @@
 -- A device behind a fuse: how many calls still pass, what is behind it, and what a call does.
 use Rattle.std.specs.Prelude.{◌≡◌, ℕ, ◌-◌, ◌/◌, ◌<◌, ◌==◌, if◌then◌else◌, List, length, take, Bool, true, false, Err}
-use Rattle.std.specs.Prelude.{Result}
+use Rattle.std.specs.Prelude.{Result, IfErr}
 use Rattle.mail_store.specs.{
   declared.{fault.StoreFault.{StoreFault, TheVariants.Refused}, file.flat_file.FlatFile.Ghosts as FileGhosts},
-  Fault.is_refusal,
+  Fault.{IsDeviceFault, is_refusal},
   Maildir.{Maildir, Settles, dropped},
   DiskCalls.{AppendsDisk, ReplacesDisk},
 }
@@ -33,6 +33,11 @@ fused_maildir maildir f = record (maildir f.device) { failures = f.failures }
 -- the device is sound, and the fuse's count is below its greatest value
 abbrev pub FusedIsSound : {D : Type 0} → (D → Type 0) → Fused D → Type 0
 FusedIsSound sound f = sound f.device × (f.failures < greatest_count)
+
+-- a call that fails only by a device's fault, and counts a refusal
+abbrev pub FailsAndCounts : {D T : Type 0} → Fused D → Result T StoreFault → Fused D → Type 0
+FailsAndCounts old result new =
+    IfErr result IsDeviceFault × Tallies (refuses is_refusal result) (refusals old) (refusals new)
 
 -- one call below the greatest count: it uses up a pass; if none is left it is refused, and no later
 -- refusal takes effect; if one is left it is refused only if the device refused it

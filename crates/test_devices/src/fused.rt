@@ -98,15 +98,15 @@ impl<D> Fused<D> {
 }
 
 impl<D: MaildirDisk> MaildirDisk for Fused<D> {
-    ghost use Rattle.std.specs.Prelude.{◌≡◌, ◌<◌, false, true, IfErr, IsSome, Ok, OnErr, OnOk, Some, None, map};
+    ghost use Rattle.std.specs.Prelude.{◌≡◌, ◌<◌, false, true, IsSome, Ok, OnErr, OnOk, Some, None, map};
     ghost use Rattle.std.specs.Prelude.{string_bytes};
-    ghost use Rattle.mail_terms.specs.FailureCount.{Tallies, refuses, greatest_count};
-    ghost use Rattle.mail_store.specs.{Fault.IsDeviceFault, Held.{ListsAmong, asks}, Loss.Flushes};
+    ghost use Rattle.mail_terms.specs.FailureCount.{greatest_count};
+    ghost use Rattle.mail_store.specs.{Held.{ListsAmong, asks}, Loss.Flushes};
     ghost use Rattle.mail_store.specs.Maildir.{AfterTaking, IsThere, Lists, Checks, Begins, Adds, Settles, dropped};
     ghost use Rattle.mail_store.specs.Maildir.{name_begun};
     ghost use Rattle.mail_store.specs.Devices.{DiskDoes, DiskRefuses};
     ghost use Rattle.test_devices.specs.StoreFuse.{device_of, passes_left, effect_is_due, refusals, fused_maildir};
-    ghost use Rattle.test_devices.specs.StoreFuse.{FusedIsSound, BurnsForStore, Fuses, SettlesBehind};
+    ghost use Rattle.test_devices.specs.StoreFuse.{FusedIsSound, FailsAndCounts, BurnsForStore, Fuses, SettlesBehind};
 
     ghost maildir = { λ f. fused_maildir D.maildir f };
 
@@ -115,8 +115,7 @@ impl<D: MaildirDisk> MaildirDisk for Fused<D> {
     fn names(&mut self, folder: Folder) -> Result<Vec<String>, StoreFault>
         ensures lists { DiskDoes ⟦<Fused<D> as MaildirDisk>⟧ (λ old new.
             AfterTaking old (λ left. Lists left folder result new)) self.old self.new }
-        ensures fault { IfErr result IsDeviceFault }
-        ensures count { Tallies (refuses is_refusal result) (refusals self.old) (refusals self.new) }
+        ensures fails { FailsAndCounts self.old result self.new }
         ensures fuse { Fuses (λ d. (D.maildir d).failures) self.old result self.new }
     {
         self.pass()?;
@@ -127,8 +126,7 @@ impl<D: MaildirDisk> MaildirDisk for Fused<D> {
     fn names_among(&mut self, asked: Asked<'_>) -> Result<Vec<String>, StoreFault>
         ensures lists { DiskDoes ⟦<Fused<D> as MaildirDisk>⟧ (λ old new.
             AfterTaking old (λ left. ListsAmong left (asks asked.entry) result new)) self.old self.new }
-        ensures fault { IfErr result IsDeviceFault }
-        ensures count { Tallies (refuses is_refusal result) (refusals self.old) (refusals self.new) }
+        ensures fails { FailsAndCounts self.old result self.new }
         ensures fuse { Fuses (λ d. (D.maildir d).failures) self.old result self.new }
     {
         self.pass()?;
@@ -146,8 +144,7 @@ impl<D: MaildirDisk> MaildirDisk for Fused<D> {
     fn check(&mut self, folder: Folder) -> Result<(), StoreFault>
         ensures checks { DiskDoes ⟦<Fused<D> as MaildirDisk>⟧
             (λ old new. Checks old folder result new) self.old self.new }
-        ensures fault { IfErr result IsDeviceFault }
-        ensures count { Tallies (refuses is_refusal result) (refusals self.old) (refusals self.new) }
+        ensures fails { FailsAndCounts self.old result self.new }
         ensures fuse { Fuses (λ d. (D.maildir d).failures) self.old result self.new }
     {
         self.pass()?;
@@ -173,8 +170,7 @@ impl<D: MaildirDisk> MaildirDisk for Fused<D> {
             (λ old new. Begins old name.now result new) self.old self.new }
         ensures begun { OnOk result (name_begun (D.maildir (device_of self.new)) ≡ Some name.now)
             × OnErr result ((D.maildir (device_of self.new)).begun ≡ (D.maildir (device_of self.old)).begun) }
-        ensures fault { IfErr result IsDeviceFault }
-        ensures count { Tallies (refuses is_refusal result) (refusals self.old) (refusals self.new) }
+        ensures fails { FailsAndCounts self.old result self.new }
         ensures fuse { Fuses (λ d. (D.maildir d).failures) self.old result self.new }
     {
         self.pass()?;
