@@ -35,10 +35,10 @@ use Rattle.mail_store.specs.declared.fault.StoreFault.TheVariants as refused
 use Rattle.pop3_client.specs.declared.fault.ClientFault.TheVariants as talk
 
 -- no turn breaks for listings that don't agree
-agrees : (turn : Turn) (old new : Place) → Broke turn old new talk.ListingsDisagree → ⊥
-agrees _ _ _ (inl (is, _)) = cc
-agrees _ _ _ (inr (inl not)) = not.cause
-agrees _ _ _ (inr (inr (is, _, _))) = cc
+no_turn_disagrees : (turn : Turn) (old new : Place) → Broke turn old new talk.ListingsDisagree → ⊥
+no_turn_disagrees _ _ _ (inl (is, _)) = cc
+no_turn_disagrees _ _ _ (inr (inl not)) = not.cause
+no_turn_disagrees _ _ _ (inr (inr (is, _, _))) = cc
 
 -- the count of a store's refused calls didn't fall
 abbrev NoLess : Target → Stores → Stores → Type 0
@@ -48,7 +48,7 @@ module _ (settings : Settings) (target : Target) (now : ℕ) (link : Link) (befo
   by_turn : (turns : List Turn) (replies : List WholeReply) (mid : Place) → Talked turns replies (at link []) mid → (next : Turn)
       (later : List Turn) → ArePlanned settings target now link before mid.link (turns ++ next ∷ later) → (new : Place) (after : Keeping)
       (why : ClientFault) → Broke next mid new why → CausesFault settings target now link before (fault_of why) new after
-  by_turn _ _ _ _ _ _ _ _ _ talk.ListingsDisagree broke = absurd (agrees _ _ _ broke)
+  by_turn _ _ _ _ _ _ _ _ _ talk.ListingsDisagree broke = absurd (no_turn_disagrees _ _ _ broke)
   by_turn _ _ _ _ _ _ _ _ _ talk.NoMemory _ = tt
   by_turn turns replies mid talked next later planned _ _ why broke = record {
     turns = turns;

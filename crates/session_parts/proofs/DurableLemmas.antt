@@ -22,7 +22,7 @@ use Rattle.session_parts.{
   specs.{Session.{AccountFiles, Keeping, Noted, Proceeds, keeps_files}, Target.{AsFiles, Stores, in_maildir}},
   specs.Task.{Done, IsAnswered, Task, file_from, files_in, files_of, ids_in, marked_ids, stores},
   proofs.{ReadyLemmas.{HeldIsDelivered, MarkedIsDelivered}, SceneLemmas.{marked_on, steady_keeps, unsaved_keeps}},
-  proofs.TakenLemmas.{Came, proceeds_came, stops_came, unready_same},
+  proofs.TakenLemmas.{FilesCame, proceeds_came, stops_came, unready_same},
 }
 use mathlib.Core.Logic.{⊎_map}
 
@@ -172,7 +172,7 @@ module _ (laws : DurableLaws) (account : List ℕ) (text : IsAccountText account
               then_has files came known =
                   rw came (front fell.mid.store.maildir.files files (went_shown fell.dones fell.went known))
 
-              unmarked : Came fell.mid.store.maildir new.store.maildir → new.file ≡ fell.mid.file → Has was new.store.maildir.files
+              unmarked : FilesCame fell.mid.store.maildir new.store.maildir → new.file ≡ fell.mid.file → Has was new.store.maildir.files
               unmarked came same = then_has (came.came ++ came.last) came.files
                   (as_rows fell.mid.file rows fell.mid.rows (rw same at keeps) (keeps_mid fell.dones fell.went) d)
 

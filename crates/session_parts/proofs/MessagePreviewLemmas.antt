@@ -10,7 +10,7 @@ use Rattle.fetch_record.specs.Record.{Row}
 use Rattle.fetch_rules.specs.declared.plans.Step.{Step}
 use Rattle.session_parts.{
   specs.{declared.message_preview.MessagePreview.MessagePreview, MessagePreview.{message_preview_of, message_previews}},
-  proofs.ReadyLemmas.{no_item, step_at},
+  proofs.ReadyLemmas.{empty_item, step_at},
 }
 
 module _ (settings : Settings) (rows : List Row) (now : ℕ) where
@@ -21,7 +21,7 @@ module _ (settings : Settings) (rows : List Row) (now : ℕ) where
 
   pub told_more : (steps : List Step) (items : List Item) (flags : List Bool) (i : ℕ) (told : List MessagePreview)
       (p : MessagePreview) → IsTold steps items flags i told → i < length items → length steps ≡ length items → length flags ≡ length items
-      → p ≡ message_preview_of settings rows now (step_at steps i) (get_or items i no_item) (get_or flags i false)
+      → p ≡ message_preview_of settings rows now (step_at steps i) (get_or items i empty_item) (get_or flags i false)
       → IsTold steps items flags (i + 1) (told ++ p ∷ [])
   told_more steps items flags i told p was within all_steps all_flags p_is = record {
     so_far = append_assoc told (p ∷ []) _ ∙ ap (λ (l : List MessagePreview). told ++ l) (sym split) ∙ was.so_far;
@@ -31,7 +31,7 @@ module _ (settings : Settings) (rows : List Row) (now : ℕ) where
           ≡ p ∷ message_previews settings rows now (drop (i + 1) steps) (drop (i + 1) items) (drop (i + 1) flags)
       split =
           let of_steps = drop-cons steps i (record { number = 0; skip = None; delete = false }) (omega (arith, within, all_steps)) in
-          let of_items = drop-cons items i no_item within in
+          let of_items = drop-cons items i empty_item within in
           let of_flags = drop-cons flags i false (omega (arith, within, all_flags)) in
           rw (of_steps, of_items, of_flags, p_is, add-one) refl
 

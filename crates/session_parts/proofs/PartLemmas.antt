@@ -36,7 +36,7 @@ use Rattle.session_parts.{
   specs.Task.{Task, stores, ids_in, ids_ahead, turns_in, turns_ahead, AreFresh, fetching, deleting, tasks_in, tasks_planned, says},
   proofs.ReadyLemmas.{fetched_all, OneMore, ahead, fresh_grows},
   proofs.TalkLemmas.{most_tail, takes_on, took_broke, took_less, took_nothing, with_tail_on, cut_by, till_cut},
-  proofs.SessionLemmas.{good_before, good_more, in_kind, keeps_same, none_durable, nothing_cut, grown_left, rows_last},
+  proofs.SessionLemmas.{good_before, good_more, in_kind, keeps_same, none_durable, cut_leaves_no_more, grown_left, rows_last},
   proofs.{RecordLemmas.no_more_keeps, SessionLemmas.{same_left, scene_at, texts_ok}},
   proofs.SceneLemmas.{did_then, all_sound, all_none, all_weaker, fell_first, on_any},
 }
@@ -405,7 +405,7 @@ module _ {D F H Z : Type 0} {disk : DiskGhosts D} {file : FileGhosts F} where
         good_task disk (target_of work.store account) task (place_of link client) (place_of link client') work
         (record work { ledger = record work.ledger { lines = lines } }) r took
         (keeps_same file work) steady (on_any r steady) (λ safe. on_any r safe) (λ safe. same_left file work.ledger.file safe.0 steady)
-        (λ safe. if_err r (λ cut. nothing_cut disk file (target_of work.store account) task (place_of link client) _ _ cut _
+        (λ safe. if_err r (λ cut. cut_leaves_no_more disk file (target_of work.store account) task (place_of link client) _ _ cut _
         work.store work.store work.ledger.file safe.1 (λ left may. may) safe.0 steady))),
   )
 
@@ -541,6 +541,6 @@ module _ {D F H Z : Type 0} {disk : DiskGhosts D} {file : FileGhosts F} {work : 
           all.1,
           good_task disk _ _ _ _ work left r all.2 (no_more_keeps _ (is.keeps d), λ last. last) steady (on_any r steady)
               (λ trust. on_ok_weaker r (λ s. (trust.0, s)) (safe d trust.1)) (λ trust. same_left file work.ledger.file trust.0 steady)
-              (λ trust. if_err r (λ cut. nothing_cut disk file _ _ _ _ _ _ _ _ _ _ trust.1 (is.keeps d) trust.0 steady)),
+              (λ trust. if_err r (λ cut. cut_leaves_no_more disk file _ _ _ _ _ _ _ _ _ _ trust.1 (is.keeps d) trust.0 steady)),
         ),
   )

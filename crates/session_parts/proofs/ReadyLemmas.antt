@@ -87,8 +87,8 @@ pub ahead : (step : Step) (item : Item) (held : Bool) (later : List Task) → id
     ≡ ids_ahead (fetching (fetches step) held step.number item.uid item.size) ++ ids_ahead later
 ahead step item held later = simp (flat_map-append, no_ids_deleting, append_assoc)
 
-pub no_item : Item
-no_item = record { uid = []; size = 0 }
+pub empty_item : Item
+empty_item = record { uid = []; size = 0 }
 
 -- the i-th step, and the tasks after it
 abbrev pub step_at : List Step → ℕ → Step
@@ -100,14 +100,14 @@ later_at steps items held i = tasks_planned (drop (i + 1) steps) (drop (i + 1) i
 -- the tasks from the i-th step on; what is done first with its message is given
 pub tasks_left : (steps : List Step) (items : List Item) (held : List Bool) (i : ℕ) (uid : List ℕ) (size : ℕ)
     (first : Task) → i < length items → length steps ≡ length items
-    → length held ≡ length items → uid ≡ (get_or items i no_item).uid → size ≡ (get_or items i no_item).size
+    → length held ≡ length items → uid ≡ (get_or items i empty_item).uid → size ≡ (get_or items i empty_item).size
     → fetching (fetches (step_at steps i)) (get_or held i false) (step_at steps i).number uid size ≡ first ∷ []
     → tasks_planned (drop i steps) (drop i items) (drop i held)
     ≡ (first ∷ deleting (step_at steps i).delete (step_at steps i).number) ++ later_at steps items held i
 tasks_left steps items held i uid size _ within all_steps all_flags u s is =
     let next : suc i ≡ i + 1 = omega arith in
     let of_steps = drop-cons steps i (record { number = 0; skip = None; delete = false }) (omega (arith, within, all_steps)) in
-    let of_items = drop-cons items i no_item within in
+    let of_items = drop-cons items i empty_item within in
     let of_held = drop-cons held i false (omega (arith, within, all_flags)) in
     (λ j. tasks_planned (of_steps j) (of_items j) (of_held j))
     ∙ (λ j. tasks_in (step_at steps i) (record { uid = sym u j; size = sym s j }) (get_or held i false) ++ tasks_planned
@@ -129,15 +129,15 @@ pub fetched_all : (P : List ℕ → Type 0) (retrieve held : Bool) (number : ℕ
 fetched_all P true false _ _ _ p = (p refl, tt)
 fetched_all P _ _ _ _ _ p = tt
 
-not_in : (front : List Item) (steps : List Step) (items : List Item) (held : List Bool) → FetchesFirsts front steps items
+no_ids_ahead : (front : List Item) (steps : List Step) (items : List Item) (held : List Bool) → FetchesFirsts front steps items
     → AllByRecursion (λ (id : List ℕ). has_item front id ≡ false) (ids_ahead (tasks_planned steps items held))
-not_in front (s ∷ ss) (i ∷ is) (h ∷ hs) firsts =
+no_ids_ahead front (s ∷ ss) (i ∷ is) (h ∷ hs) firsts =
     rw (ahead s i h (tasks_planned ss is hs)) (all_append (λ (id : List ℕ). has_item front id ≡ false)
     (ids_ahead (fetching (fetches s) h s.number i.uid i.size)) (ids_ahead (tasks_planned ss is hs))
     (fetched_all (λ (id : List ℕ). has_item front id ≡ false) (fetches s) h s.number i.uid i.size firsts.0)
     (all_weaker (λ (id : List ℕ). has_item (front ++ i ∷ []) id ≡ false) (λ (id : List ℕ). has_item front id ≡ false)
-    (ids_ahead (tasks_planned ss is hs)) (λ id none. (has_item-last front i id none).0) (not_in (front ++ i ∷ []) ss is hs firsts.1)))
-not_in front _ _ _ firsts = tt
+    (ids_ahead (tasks_planned ss is hs)) (λ id none. (has_item-last front i id none).0) (no_ids_ahead (front ++ i ∷ []) ss is hs firsts.1)))
+no_ids_ahead front _ _ _ firsts = tt
 
 fresh_head : (account : List ℕ) (maildir : Maildir) (retrieve held : Bool) (number size : ℕ) (uid : List ℕ)
     (ids : List (List ℕ)) → IsLegalId uid → held ≡ is_held account maildir uid
@@ -154,7 +154,7 @@ fresh_firsts account maildir front (s ∷ ss) (i ∷ is) firsts legal =
     rw (ahead s i (is_held account maildir i.uid) later)
     (fresh_head account maildir (fetches s) (is_held account maildir i.uid) s.number i.size i.uid (ids_ahead later) legal.0 refl
     (all_weaker (λ (id : List ℕ). has_item (front ++ i ∷ []) id ≡ false) (λ (other : List ℕ). other ≢ i.uid) (ids_ahead later)
-    (λ id none. (has_item-last front i id none).1) (not_in (front ++ i ∷ []) ss is (flags_of account maildir is) firsts.1))
+    (λ id none. (has_item-last front i id none).1) (no_ids_ahead (front ++ i ∷ []) ss is (flags_of account maildir is) firsts.1))
     (fresh_firsts account maildir (front ++ i ∷ []) ss is firsts.1 legal.1))
 fresh_firsts account maildir front _ _ firsts legal = tt
 
@@ -170,8 +170,8 @@ pub flags_more : (f : List ℕ → Bool) (items : List Item) (i : ℕ) (flags ne
     → flag ≡ f uid → new ≡ flags ++ flag ∷ [] → new ≡ map (λ (item : Item). f item.uid) (take (i + 1) items)
 flags_more f items i _ _ _ flag before inside at is pushed =
     let test : Item → Bool = λ item. f item.uid in
-    let item = get_or items i no_item in
-    pushed ∙ ap (λ xs. xs ++ flag ∷ []) before ∙ ap (λ b. map test (take i items) ++ b ∷ []) (is ∙ ap f (at no_item))
+    let item = get_or items i empty_item in
+    pushed ∙ ap (λ xs. xs ++ flag ∷ []) before ∙ ap (λ b. map test (take i items) ++ b ∷ []) (is ∙ ap f (at empty_item))
     ∙ sym (map-append test (take i items) (item ∷ [])) ∙ ap (map test) (sym (take_more _ i _ inside))
 
 -- ---- what is durable once a record was made ready, or wasn't
@@ -353,12 +353,12 @@ unread (AsFiles _) _ store _ _ _ (BadSeen _) is = ((is, refl), rw is.3)
 unread AsEntries _ store _ _ _ (BadSeen _) is = ((is, refl), rw is.3)
 unread _ _ store _ _ _ _ never = absurd never
 
-files_refused : (fault : Fault) (maildir : Maildir) (file : Stored) (maildir' : Maildir) (file' : Stored)
+unready_if_refused : (fault : Fault) (maildir : Maildir) (file : Stored) (maildir' : Maildir) (file' : Stored)
     → FindsRefused maildir fault maildir' → UnreadyCause fault maildir file maildir' file'
-files_refused (StoreRefused why.Missing) _ _ _ _ is = is
-files_refused (StoreRefused why.Refused) _ _ _ _ is = is
-files_refused NoMemory _ _ _ _ is = is
-files_refused _ _ _ _ _ never = absurd never
+unready_if_refused (StoreRefused why.Missing) _ _ _ _ is = is
+unready_if_refused (StoreRefused why.Refused) _ _ _ _ is = is
+unready_if_refused NoMemory _ _ _ _ is = is
+unready_if_refused _ _ _ _ _ never = absurd never
 
 mbox_refused : (fault : Fault) (items : List Item) (was : RecordState) (mbox file mbox' file' : Stored)
     → Keeps file.content was → AsksMbox was.intent mbox items (Err fault) mbox' → MboxUnready items fault mbox file mbox' file'
@@ -372,12 +372,12 @@ mbox_refused NoMemory _ was _ _ _ _ kept (_, most) = inr (was, kept, most)
 mbox_refused _ _ _ _ _ _ _ kept never = absurd never
 
 -- the store refused
-pub not_found : (read_all : Bool) (target : Target) (items : List Item) (store store' : Stores) (file new : Stored)
+pub finding_refused : (read_all : Bool) (target : Target) (items : List Item) (store store' : Stores) (file new : Stored)
     (loaded : Loaded) (fault : Fault) → FileReadAs file.content loaded
     → FindsIn read_all target (record_state_in loaded) store items (Err fault) store'
     → CausesUnready target items fault store file store' new
-not_found _ (AsFiles _) _ store store' file new _ fault _ finds = files_refused _ _ _ _ _ finds
-not_found _ AsEntries items store store' file new loaded fault stood finds = mbox_refused _ _ _ _ _ _ _ (read_keeps _ _ stood) finds
+finding_refused _ (AsFiles _) _ store store' file new _ fault _ finds = unready_if_refused _ _ _ _ _ finds
+finding_refused _ AsEntries items store store' file new loaded fault stood finds = mbox_refused _ _ _ _ _ _ _ (read_keeps _ _ stood) finds
 
 -- ---- the listing was merged
 
@@ -554,12 +554,12 @@ pub is_anew : (loaded : Loaded) (old new : Stored) → FileReadAs old.content lo
 is_anew loaded old new stood closed stale is = (rw closed at (read_keeps old.content loaded stood), (loaded, stood, stale), is)
 
 -- there is no place
-pub no_place : (kind : Kind) (items : List Item) (old new : Stores) (refusal : StoreFault) (fault : Fault)
+pub idle_check_refused : (kind : Kind) (items : List Item) (old new : Stores) (refusal : StoreFault) (fault : Fault)
     → ChecksStore {T = Unit {0}} kind old (Err refusal) new → IsStoreFault refusal fault → ChecksIdle kind old items (Err fault) new
-no_place Files items old new refused.Missing fault is told = rw told is.0
-no_place Files items old new refused.Refused fault is told = rw told is.0
-no_place Files items old new _ fault is told = absurd is.0
-no_place Entries items old new refusal fault is told =
+idle_check_refused Files items old new refused.Missing fault is told = rw told is.0
+idle_check_refused Files items old new refused.Refused fault is told = rw told is.0
+idle_check_refused Files items old new _ fault is told = absurd is.0
+idle_check_refused Entries items old new refusal fault is told =
     (asks_refused None old.mbox old.mbox new.mbox false items refusal fault (refl, refl) is.0 told, is.1)
 
 module _ {D F : Type 0} (disk : DiskGhosts D) (files : FileGhosts F) (account : List ℕ) where
@@ -630,9 +630,9 @@ module _ {D F : Type 0} (disk : DiskGhosts D) (files : FileGhosts F) (account : 
             → CausesUnready (target_of store account) items fault (stores_of disk files store) (stored_in files from)
             (stores_of disk files store') (stored_in files f)
         by (InMaildir device) finds =
-            not_found false (AsFiles account) items (in_maildir (disk.maildir device)) (stores_of disk files store')
+            finding_refused false (AsFiles account) items (in_maildir (disk.maildir device)) (stores_of disk files store')
             (stored_in files from) (stored_in files f) loaded fault stood finds
-        by (InMbox device) finds = not_found false AsEntries items (in_mbox (stored_in files device))
+        by (InMbox device) finds = finding_refused false AsEntries items (in_mbox (stored_in files device))
             (stores_of disk files store') (stored_in files from) (stored_in files f) loaded fault stood
             (subst (λ (intent : Option Intent). AsksMbox intent (stored_in files device) items (Err fault)
             (stores_of disk files store').mbox) (sym idle.closed) finds.0)

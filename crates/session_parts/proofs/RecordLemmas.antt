@@ -260,9 +260,9 @@ durably_intends rows intent old (Err fault) new (inr (mid, size, measures, saves
     measured_first (none_open rows) (with_open rows intent) old mid size (Err fault) new measures
     (durably_saves (none_open rows) (with_open rows intent) mid (Err fault) new saves)
 
-first_none : (a b : List ℕ) → a ++ b ≡ [] → a ≡ []
-first_none [] _ _ = refl
-first_none (_ ∷ _) _ none = absurd (true≢false (cc none))
+empty_front : (a b : List ℕ) → a ++ b ≡ [] → a ≡ []
+empty_front [] _ _ = refl
+empty_front (_ ∷ _) _ none = absurd (true≢false (cc none))
 
 -- the bytes that the file had stand for the rows
 pub opened_behind : (rows : List Row) (intent : Intent) (old : KnownFile) (size : ℕ) (new : KnownFile)
@@ -281,7 +281,7 @@ opened_behind rows intent old size new (mid, ((size_is, e), count), (added, grow
         let was = bytes_in (seen_on mid.disk) in
         let now = ap (λ (s : Stored). bytes_in s.content)
         (appends {T = Unit {0}} mid.disk new.disk (byte ∷ more) 0 0 (Ok tt) t refl was (is_there (seen_on mid.disk) some)) in
-        stands_till (stored_of mid) (stored_of new) size (byte ∷ more) rows (λ none. some (first_none was (byte ∷ more) (sym now ∙ none)))
+        stands_till (stored_of mid) (stored_of new) size (byte ∷ more) rows (λ none. some (empty_front was (byte ∷ more) (sym now ∙ none)))
         (size_is ∙ ap (λ (o : Option (List ℕ)). length (bytes_in o)) (sym seen)) now (rw seen stood)
 
 -- ---- it was closed again

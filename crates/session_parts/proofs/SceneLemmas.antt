@@ -236,12 +236,12 @@ content_on : (content : Option (List ℕ)) (xs ys : List (List ℕ))
 content_on None _ _ = refl
 content_on (Some _) _ _ = simp (flat_map-append, append_assoc)
 
-appended_none : (mbox : Stored) → Appended mbox mbox []
-appended_none _ = record { content = simp (append-nil, option_map_id); failures = refl }
+nothing_appended : (mbox : Stored) → Appended mbox mbox []
+nothing_appended _ = record { content = simp (append-nil, option_map_id); failures = refl }
 
 pub brings_none : (target : Target) (s : Stores) → Brings target [] s s
 brings_none (AsFiles _) s = gained_none _
-brings_none AsEntries s = appended_none _
+brings_none AsEntries s = nothing_appended _
 
 brings_on : (target : Target) (xs ys : List Done) (a b c : Stores) → Brings target xs a b → Brings target ys b c
     → Brings target (xs ++ ys) a c
@@ -264,7 +264,7 @@ pub brings_same : (target : Target) (done : Done) (s : Stores)
     → ((account : List ℕ) → files_in account done.task done.replies ≡ []) → texts_in done.task done.replies ≡ []
     → Brings target (done ∷ []) s s
 brings_same (AsFiles _) _ s files _ = rw files (gained_none _)
-brings_same AsEntries _ s _ texts = rw texts (appended_none _)
+brings_same AsEntries _ s _ texts = rw texts (nothing_appended _)
 
 pub went_none : (target : Target) (s : Scene) → Went target [] s s
 went_none target s =

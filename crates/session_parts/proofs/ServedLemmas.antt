@@ -390,11 +390,11 @@ module _ (paced : ConversationsArePaced) (settings : Settings) (target : Target)
 
 -- ---- a session that ended has stored what it wants
 
-zip_on : (xs ys : List Turn) (ls ms : List WholeReply) → AllZip IsGood xs ls → zip (xs ++ ys) (ls ++ ms) ≡ zip xs ls ++ zip ys ms
-zip_on [] _ [] _ _ = refl
-zip_on [] _ (l ∷ _) _ never = absurd never
-zip_on (x ∷ _) _ [] _ never = absurd never
-zip_on (x ∷ xs) ys (l ∷ ls) ms good = cc (zip_on xs ys ls ms good.1)
+zip_turns : (xs ys : List Turn) (ls ms : List WholeReply) → AllZip IsGood xs ls → zip (xs ++ ys) (ls ++ ms) ≡ zip xs ls ++ zip ys ms
+zip_turns [] _ [] _ _ = refl
+zip_turns [] _ (l ∷ _) _ never = absurd never
+zip_turns (x ∷ _) _ [] _ never = absurd never
+zip_turns (x ∷ xs) ys (l ∷ ls) ms good = cc (zip_turns xs ys ls ms good.1)
 
 -- of what tasks bring: the task that stores a text was answered by a reply, of whose text this holds
 abbrev Did : (Turn × WholeReply → Type 0) → (List ℕ → WholeReply → Type 0) → Task → Type 0
@@ -421,7 +421,7 @@ module _ {X : Type 0} (brings : Task → List WholeReply → List X) (made : Lis
       → ((x : X) → Contains (brought_by dones) x → Has x) → AllByRecursion (Did Said (λ uid reply. Has (made uid reply))) (tasks_of dones)
   all_did [] each said has = tt
   all_did (done ∷ dones) each said has =
-      let on = zip_on (turns_in done.task) (turns_of dones) done.replies (replies_of dones) each.0 in (
+      let on = zip_turns (turns_in done.task) (turns_of dones) done.replies (replies_of dones) each.0 in (
         one_did done.task done.replies each.0 (λ p there. said p (subst (λ (ps : List (Turn × WholeReply)). Contains ps p) (sym on)
             (Contains-append_left (zip (turns_in done.task) done.replies) (zip (turns_of dones) (replies_of dones)) p there)))
             (λ x there. has x (Contains-append_left (brings done.task done.replies) (brought_by dones) x there)),

@@ -35,7 +35,7 @@ use Rattle.session_parts.{
   specs.Pretend.{PreviewsMerged, WouldBeUnready, HoldsTheSame, IsUntouched as ChangesNothing, JudgesMbox, LooksAtMbox, LooksIn, Pretends},
   specs.Pretend.{PreviewsSession, counted_as, previews_of, preview_told},
   proofs.SceneLemmas.{is_there, not_whole, till_front, read_keeps, all_on, fell_before, fell_on, marked_on},
-  proofs.{ReadyLemmas.{ahead, not_found, unread}, RecordLemmas.{grown_rows, no_more_keeps, shown_longer, still_grown}},
+  proofs.{ReadyLemmas.{ahead, finding_refused, unread}, RecordLemmas.{grown_rows, no_more_keeps, shown_longer, still_grown}},
 }
 use Rattle.mail_terms.specs.Listing.{Item}
 use Rattle.rc_file.specs.declared.settings.Settings.{Settings}
@@ -200,14 +200,15 @@ pub none_left_of : {F : Type 0} (file : FileGhosts F) (mbox f : F) (next : Task)
 none_left_of file mbox f next place rows lines cut new safe steady whole trust bytes has left may now is seen there =
     inl (same_grown file f (none_open rows) (none_open rows) safe steady now is seen there, (whole.1 bytes has).1 left may)
 
-pub nothing_cut : {D F : Type 0} (disk : DiskGhosts D) (file : FileGhosts F) (target : Target) (task : Task) (a : Place)
+pub cut_leaves_no_more : {D F : Type 0} (disk : DiskGhosts D) (file : FileGhosts F) (target : Target) (task : Task) (a : Place)
     (rows : List Row) (lines : List ReportLine) (cut : Cut) (new : Scene) (was store : Store D F) (f : F)
     → IsSafeStore file was → LeavesNoMore (may_leave_in file was) (may_leave_in file store) → IsSafeFile file f
     → Steady (stored_in file f).content (none_open rows)
     → DurableCut file target task (scene a (stores_of disk file was) (stored_in file f) rows lines) cut new store f
-nothing_cut disk file (AsFiles account) task a rows lines cut new was store f whole no_more safe steady = inl (same_left file f safe steady)
-nothing_cut disk file AsEntries task a rows lines cut new was (InMaildir device) f whole no_more safe steady = tt
-nothing_cut disk file AsEntries task a rows lines cut new was (InMbox device) f whole no_more safe steady =
+cut_leaves_no_more disk file (AsFiles account) task a rows lines cut new was store f whole no_more safe steady =
+    inl (same_left file f safe steady)
+cut_leaves_no_more disk file AsEntries task a rows lines cut new was (InMaildir device) f whole no_more safe steady = tt
+cut_leaves_no_more disk file AsEntries task a rows lines cut new was (InMbox device) f whole no_more safe steady =
     λ trust bytes is left may now has seen there. inl (
       same_grown file f (none_open rows) (none_open rows) safe steady now has seen there,
       only_in file was whole bytes (same_mbox disk file was ∙ is) left (no_more left may),
@@ -483,11 +484,11 @@ work_preview settings target items now store file _ loaded store' found _ stood 
     )
 
 -- the record couldn't be read
-pub not_read : (settings : Settings) (target : Target) (items : List Item) (now : ℕ) (store : Stores)
+pub record_unread : (settings : Settings) (target : Target) (items : List Item) (now : ℕ) (store : Stores)
     (file read : Stored) (loaded : Loaded) (fault : Fault)
     → ReadsRecord file loaded (Err fault) read → WouldBeUnready target items fault store file store read
     × ChangesNothing target (keeping store file) (keeping store read)
-not_read settings target items now store file read loaded fault reads =
+record_unread settings target items now store file read loaded fault reads =
     let is = unread target items store file read loaded fault reads in
     (record { left = store; cause = is.0; maildir = refl; count = refl }, (holds_the_same target store, is.1))
 
@@ -499,7 +500,7 @@ pub not_looked : (settings : Settings) (target : Target) (items : List Item) (no
 not_looked settings (AsFiles account) items now store file read loaded store' fault stood same looks = (
   record {
     left = store';
-    cause = not_found false (AsFiles account) items store store' file read loaded fault stood looks;
+    cause = finding_refused false (AsFiles account) items store store' file read loaded fault stood looks;
     maildir = refl;
     count = refl;
   },
@@ -509,7 +510,7 @@ not_looked settings AsEntries items now store file read loaded store' fault stoo
     let left : Stores = record store' { mbox = looks.left } in (
       record {
         left = left;
-        cause = not_found false AsEntries items store left file read loaded fault stood looks.asks;
+        cause = finding_refused false AsEntries items store left file read loaded fault stood looks.asks;
         maildir = refl;
         count = looks.count;
       },
@@ -517,15 +518,15 @@ not_looked settings AsEntries items now store file read loaded store' fault stoo
     )
 
 -- memory ran out for what is told
-pub not_told : (settings : Settings) (target : Target) (items : List Item) (now : ℕ) (store : Stores)
+pub memory_ran_out : (settings : Settings) (target : Target) (items : List Item) (now : ℕ) (store : Stores)
     (file read : Stored) (intent : Option Intent) (store' : Stores) (found : Found)
     → read ≡ file → LooksIn target intent store items (Ok found) store'
     → WouldBeUnready target items NoMemory store file store' read × ChangesNothing target (keeping store file) (keeping store' read)
-not_told settings (AsFiles account) items now store file read intent store' found same looks = (
+memory_ran_out settings (AsFiles account) items now store file read intent store' found same looks = (
   record { left = store'; cause = ap (λ (s : Stores). s.maildir) looks.2; maildir = refl; count = refl },
   (ap (λ (s : Stores). counted_as store.maildir.failures s.maildir) looks.2, ap (λ (s : Stored). s.content) same),
 )
-not_told settings AsEntries items now store file read intent store' found same looks = (
+memory_ran_out settings AsEntries items now store file read intent store' found same looks = (
   record {
     left = record store' { mbox = store.mbox };
     cause = inl refl;

@@ -21,7 +21,7 @@ use Rattle.session_parts.specs.{
 }
 
 -- durable files came, and perhaps one whose name may not be durable; none was taken, and the same names are odd
-pub record Came (old new : Maildir) : Type 0 where
+pub record FilesCame (old new : Maildir) : Type 0 where
   pub came : List File
   pub last : List File
   pub files : new.files ≡ old.files ++ (came ++ last)
@@ -31,8 +31,8 @@ pub record Came (old new : Maildir) : Type 0 where
   pub taken : new.taken ≡ old.taken
   pub odd : new.odd ≡ old.odd
 
-came_none : {old new : Maildir} {draft : Option Draft} {n : ℕ} → new ≡ record old { begun = draft; failures = n } → Came old new
-came_none {old} is = rw is (record {
+no_file_came : {old new : Maildir} {draft : Option Draft} {n : ℕ} → new ≡ record old { begun = draft; failures = n } → FilesCame old new
+no_file_came {old} is = rw is (record {
   came = [];
   last = [];
   files = sym (append-nil old.files);
@@ -43,7 +43,7 @@ came_none {old} is = rw is (record {
   odd = refl;
 })
 
-came_then : (a b c : Maildir) (files : List File) → Gained a b files → AllByRecursion IsDurableFile files → Came b c → Came a c
+came_then : (a b c : Maildir) (files : List File) → Gained a b files → AllByRecursion IsDurableFile files → FilesCame b c → FilesCame a c
 came_then a b c files first durable then = record {
   came = files ++ then.came;
   last = then.last;
@@ -66,9 +66,9 @@ all_durable account (d ∷ dones) = all_append IsDurableFile (files_in account d
     by other replies = tt
 
 refused_came : (old : Maildir) (stem text : List ℕ) (rest : Rest) (fault : Fault) (new : Maildir)
-    → RefusesText old stem rest text fault new → Came old new
-refused_came _ _ _ _ _ _ (inl (_, _, same)) = came_none same
-refused_came _ _ _ _ _ _ (inr (_, inl dropped)) = came_none dropped
+    → RefusesText old stem rest text fault new → FilesCame old new
+refused_came _ _ _ _ _ _ (inl (_, _, same)) = no_file_came same
+refused_came _ _ _ _ _ _ (inr (_, inl dropped)) = no_file_came dropped
 refused_came _ stem text _ _ _ (inr (_, inr (_, (is_named, one)))) = rw one (record {
   came = [];
   last = record (sized_file stem text) { is_named = is_named } ∷ [];
@@ -86,33 +86,33 @@ unready_same (StoreRefused Refused) old file new file' is = rw is refl
 unready_same fault old file new file' is = grind arith
 
 unready_came : (fault : Fault) (old : Maildir) (file : Stored) (new : Maildir) (file' : Stored)
-    → UnreadyCause fault old file new file' → Came old new
-unready_came (StoreRefused Refused) old file new file' is = came_none is
-unready_came fault old file new file' is = let same : new ≡ old = grind arith in came_none same
+    → UnreadyCause fault old file new file' → FilesCame old new
+unready_came (StoreRefused Refused) old file new file' is = no_file_came is
+unready_came fault old file new file' is = let same : new ≡ old = grind arith in no_file_came same
 
 module _ (account : List ℕ) where
   pub stops_came : {next : Task} {old new : Scene} {cut : Cut} → Stops (AsFiles account) next old cut new
-      → Came old.store.maildir new.store.maildir
-  stops_came (inl broken) = came_none (ap (λ (s : Stores). s.maildir) broken.store)
+      → FilesCame old.store.maildir new.store.maildir
+  stops_came (inl broken) = no_file_came (ap (λ (s : Stores). s.maildir) broken.store)
   stops_came (inr (inl none)) = refused_came _ (stem_of account none.uid) none.text none.rest _ _ none.refuses
-  stops_came (inr (inr unsaved)) = came_then _ _ _ _ unsaved.stored ((refl, refl), tt) (came_none refl)
+  stops_came (inr (inr unsaved)) = came_then _ _ _ _ unsaved.stored ((refl, refl), tt) (no_file_came refl)
 
   does_came : (tasks : List Task) (old new : Scene) (r : Result (Unit {0}) Cut) → Does (AsFiles account) tasks old r new
-      → Came old.store.maildir new.store.maildir
-  does_came _ _ _ (Ok done) all = came_then _ _ _ _ all.went.stored (all_durable account all.dones) (came_none refl)
+      → FilesCame old.store.maildir new.store.maildir
+  does_came _ _ _ (Ok done) all = came_then _ _ _ _ all.went.stored (all_durable account all.dones) (no_file_came refl)
   does_came _ _ _ (Err cut) fell = came_then _ _ _ _ fell.went.stored (all_durable account fell.dones) (stops_came fell.stops)
 
   module _ (settings : Settings) (now : ℕ) (old new : Place) (before after : Keeping) (notes : Noted) where
     carried_came : {items : List Item} {place : Place} {end : Scene} (r : Result (Unit {0}) Cut)
         → Carried settings (AsFiles account) items now place before.store before.file [] r end notes.skipped
-        → Came before.store.maildir end.store.maildir
+        → FilesCame before.store.maildir end.store.maildir
     carried_came r is = rw (← ap (λ (s : Stores). s.maildir) is.prepared.settles) (does_came _ is.mid _ r is.does)
 
     pub proceeds_came : (r : Result (Unit {0}) Cut) → Proceeds settings (AsFiles account) now old before r new after notes
-        → Came before.store.maildir after.store.maildir
+        → FilesCame before.store.maildir after.store.maildir
     proceeds_came (Ok done) dealt = carried_came (Ok done) dealt.carries.1
-    proceeds_came (Err cut) (inl is) = came_none (ap (λ (k : Keeping). k.store.maildir) is.same)
-    proceeds_came (Err cut) (inr (inl is)) = came_none (ap (λ (k : Keeping). k.store.maildir) is.same)
+    proceeds_came (Err cut) (inl is) = no_file_came (ap (λ (k : Keeping). k.store.maildir) is.same)
+    proceeds_came (Err cut) (inr (inl is)) = no_file_came (ap (λ (k : Keeping). k.store.maildir) is.same)
     proceeds_came (Err cut) (inr (inr dealt)) = elim dealt.carries.1 [
       | inl un ↦ unready_came _ _ _ _ _ un.1.unready.cause
       | inr carried ↦ carried_came (Err cut) carried

@@ -46,9 +46,9 @@ module _ {W : Type 0} (link : Ghosts W) where
       (all.0, both all.2 then.2)
 
 -- after turns that were completed, others stopped
-pub stopped_behind : TurnsJoin → (xs ys : List Turn) (rs : List WholeReply) (a b new : Place) (fault : ClientFault)
+pub stops_after_talk : TurnsJoin → (xs ys : List Turn) (rs : List WholeReply) (a b new : Place) (fault : ClientFault)
     → Talked xs rs a b → Stopped ys b new fault → Stopped (xs ++ ys) a new fault
-stopped_behind joining xs _ rs a b _ _ first then = record {
+stops_after_talk joining xs _ rs a b _ _ first then = record {
   done = xs ++ then.done;
   replies = rs ++ then.replies;
   next = then.next;
@@ -83,7 +83,7 @@ module _ (joining : TurnsJoin) (name password : List ℕ) (a b c d : Place) (wel
   listed_too counted count (Ok _) talked gives (uids, sizes, listed, joins) =
       (count, uids, sizes, all_opened _ _ _ _ talked gives listed, joins)
   listed_too counted _ (Err fault) talked _ (inl stopped) =
-      inl (stopped_behind joining _ _ _ a b d fault entered (stopped_behind joining _ _ _ b c d fault talked stopped))
+      inl (stops_after_talk joining _ _ _ a b d fault entered (stops_after_talk joining _ _ _ b c d fault talked stopped))
   listed_too counted count (Err _) talked gives (inr (inl (is, (uids, sizes, listed, never)))) =
       inr (inl (is, (count, uids, sizes, all_opened _ _ _ _ talked gives listed, never)))
   listed_too counted count (Err _) talked gives (inr (inr (is, (uids, sizes, listed)))) =
@@ -150,12 +150,12 @@ fetching_again _ _ old rest _ now = record {
 }
 
 -- a turn before a conversation
-completes_then : TurnsJoin → (turn : Turn) (turns : List Turn) (old mid new : Place) (reply : WholeReply)
+talks_from_turn : TurnsJoin → (turn : Turn) (turns : List Turn) (old mid new : Place) (reply : WholeReply)
     (result : Result (Unit {0}) ClientFault) → Talked (turn ∷ []) (reply ∷ []) old mid
     → Talks turns mid result new → Talks (turn ∷ turns) old result new
-completes_then joining turn turns old mid new reply (Ok _) first then =
+talks_from_turn joining turn turns old mid new reply (Ok _) first then =
     (reply ∷ then.0, joining.on (turn ∷ []) turns (reply ∷ []) then.0 old mid new first then.1)
-completes_then joining turn turns old mid new reply (Err fault) first then = stopped_behind joining _ _ _ _ _ _ fault first then
+talks_from_turn joining turn turns old mid new reply (Err fault) first then = stops_after_talk joining _ _ _ _ _ _ fault first then
 
 module _ (joining : TurnsJoin) (paced : ConversationsArePaced) where
   got_under : (number : ℕ) (start old new : Place) (rest : Rest) (text : List ℕ) (r : Result (Unit {0}) ClientFault)
@@ -180,7 +180,7 @@ module _ (joining : TurnsJoin) (paced : ConversationsArePaced) where
         let got = got_under number start old mid rest text (Ok tt) drops now in
         let p = paced (turns_of_tail (tail fault)) mid new r talks in (
           r,
-          completes_then joining (retr number) (turns_of_tail (tail fault)) start mid new told.0 r told.1 talks,
+          talks_from_turn joining (retr number) (turns_of_tail (tail fault)) start mid new told.0 r told.1 talks,
           record {
             said = asking p.done ++ p.part;
             gained = got.0 ++ p.gained;
@@ -231,9 +231,9 @@ cut_by WriteFailed _ _ up = inr (up, refl, refl)
 cut_by _ _ _ same = inl same
 
 -- a session that was cut and left
-pub left_alone : (cut : Cut) (a b c : Link) (outcome : Outcome) → outcome ≡ WasCut cut.fault → RefusesBefore a cut b
+pub left_when_cut : (cut : Cut) (a b c : Link) (outcome : Outcome) → outcome ≡ WasCut cut.fault → RefusesBefore a cut b
     → RefusesAtMostOne b c → (cut.rest ≡ None → tail cut.fault ≡ Nothing → RefusesNone b c) → RefusesByOutcome a outcome c
-left_alone _ a b c _ is before left silent =
+left_when_cut _ a b c _ is before left silent =
     rw is (elim before [
       | inl same ↦ ⊎_elim (λ is. inl (cc)) (λ up. inr (cc)) left
       | inr (up, none, nothing) ↦ inr (silent none nothing ∙ up)
@@ -283,16 +283,16 @@ most_tail _ = omega arith
 
 -- ---- nothing is said after QUIT
 
-only_quit : (to : Asked) → Names to quit → tail (Refused to) ≡ Nothing
-only_quit ByQuit e = refl
-only_quit ByUser (_, e) = cc
-only_quit ByPass (_, e) = cc
-only_quit _ e = cc
+no_tail_by_quit : (to : Asked) → Names to quit → tail (Refused to) ≡ Nothing
+no_tail_by_quit ByQuit e = refl
+no_tail_by_quit ByUser (_, e) = cc
+no_tail_by_quit ByPass (_, e) = cc
+no_tail_by_quit _ e = cc
 
 quit_tail : (fault : ClientFault) (a b : Place) → Broke quit a b fault → tail (fault_of fault) ≡ Nothing
 quit_tail _ a b (inl cut) = cc
 quit_tail _ a b (inr (inr none)) = cc
-quit_tail (WasRefused to) a b (inr (inl bad)) = only_quit to bad.cause.0
+quit_tail (WasRefused to) a b (inr (inl bad)) = no_tail_by_quit to bad.cause.0
 quit_tail _ a b (inr (inl _)) = refl
 
 -- ---- with what is said after a fault

@@ -193,9 +193,9 @@ taken_idle target done {store = store} {rows = rows} files texts ids answered ta
 none_some : {P : Type 0} (content : Option (List ℕ)) (bytes : List ℕ) → content ≡ None → content ≡ Some bytes → P
 none_some _ bytes none some = absurd (none-some bytes (cc))
 
-either : (content : Option (List ℕ)) → (content ≡ None) ⊎ ((bytes : List ℕ) × (content ≡ Some bytes))
-either None = inl refl
-either (Some bytes) = inr (bytes, refl)
+none_or_bytes : (content : Option (List ℕ)) → (content ≡ None) ⊎ ((bytes : List ℕ) × (content ≡ Some bytes))
+none_or_bytes None = inl refl
+none_or_bytes (Some bytes) = inr (bytes, refl)
 
 pub held_same : (old : Stored) (bytes : List ℕ) → old.content ≡ Some bytes → old ≡ holding old bytes
 held_same old bytes is = ap (λ (c : Option (List ℕ)). let s : Stored = record old { content = c } in s) is
@@ -210,7 +210,7 @@ settles_either : (intent : Option Intent) (items : List Item) (old mid : Stored)
     → SettlesIntent intent items old (Ok stored) mid → ((old.content ≡ None) × (mid ≡ old)) ⊎ ((was : List ℕ) × (old.content ≡ Some was)
     × (stored ≡ is_stored intent items was) × (mid ≡ holding old (closed_file intent items was)))
 settles_either None _ old _ _ (whole, same) =
-    elim (either old.content) [
+    elim (none_or_bytes old.content) [
       | inl none ↦ inl (none, same)
       | inr (was, some) ↦ inr (was, some, whole, same ∙ held_same _ _ some)
     ]

@@ -2,7 +2,7 @@ use Rattle.std.proofs.Common.{ℕ, List, Ok, Err, refl, ap, ◌∙◌}
 use Rattle.pop3_client.specs.Client.{place_of}
 use Rattle.session_parts.{
   specs.{Session.noted, Target.target_of},
-  proofs.{TalkLemmas.{ended_within, left_alone, took_leaving, took_less}, ReadyLemmas.followed, SessionLemmas.left_session},
+  proofs.{TalkLemmas.{ended_within, left_when_cut, took_leaving, took_less}, ReadyLemmas.followed, SessionLemmas.left_session},
   proofs.HearingLemmas.heard_as,
 }
 use Rattle.fetch_session.proofs.one_session.session_told.Goals as goal
@@ -44,7 +44,7 @@ returns-clause-bounded g c = λ w.
 
 pub returns-in-Err-clause-counted : goal.returns-in-Err-clause-counted
 returns-in-Err-clause-counted g c =
-    left_alone c.in-Err.cut (g.W.Wire.history c.args.client.now.wire.now)
+    left_when_cut c.in-Err.cut (g.W.Wire.history c.args.client.now.wire.now)
     (g.W.Wire.history c.proceed.new.client.wire.now) (g.W.Wire.history c.leave.new.client.wire.now)
     c.report_of.result.outcome c.report_of.ensures.outcome_is c.in-Err.ensures.link.counted c.leave.ensures.counted c.leave.ensures.silent
 

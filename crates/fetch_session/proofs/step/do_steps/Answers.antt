@@ -4,7 +4,7 @@ use Rattle.std.proofs.{
 }
 use Rattle.fetch_rules.specs.declared.plans.Step.{Step}
 use Rattle.session_parts.{
-  proofs.{TalkLemmas.err_is, ReadyLemmas.{later_at, no_item, step_at, tasks_left}},
+  proofs.{TalkLemmas.err_is, ReadyLemmas.{later_at, empty_item, step_at, tasks_left}},
   proofs.PartLemmas.{runs_before, runs_nothing, goes_on, ready_front},
   specs.{Parts.IsReadyFor, Task.{Task, deleting, tasks_planned}},
 }
@@ -32,7 +32,7 @@ split g c =
     (tasks_left c.args.plan.steps.now c.args.plan.listing.now c.args.plan.held.now c.loop-i.i c.uid.result.now
     c.size.result (task_of c.first_task-first.result)
     (omega (arith, c.loop-i-test.true, c.len-i-end.ensures.count)) c.requires.all_steps c.requires.all_flags
-    (c.uid.ensures.value no_item) (c.size.ensures no_item) c.first_task-first.ensures) ∙ sym (append_assoc done (now g c) (later g c))
+    (c.uid.ensures.value empty_item) (c.size.ensures empty_item) c.first_task-first.ensures) ∙ sym (append_assoc done (now g c) (later g c))
 
 -- all is ready for that
 ready_now : (g : _) (c : After-first_task-first g)

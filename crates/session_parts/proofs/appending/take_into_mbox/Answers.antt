@@ -19,13 +19,13 @@ use Rattle.session_parts.{
 use Rattle.mail_store.specs.{FlatFile.Stored, Mboxrd.entry_of}
 use Rattle.session_parts.proofs.appending.take_into_mbox.Goals as goal
 
-long : (g : _) (c : After-len-length g) → c.len-length.result ≡ length c.in_ok-text.text.items
-long g c = let same = ap length c.deref.ensures.value in omega (arith, c.len-length.ensures, c.deref.ensures.len, same)
+text_counted : (g : _) (c : After-len-length g) → c.len-length.result ≡ length c.in_ok-text.text.items
+text_counted g c = let same = ap length c.deref.ensures.value in omega (arith, c.len-length.ensures, c.deref.ensures.len, same)
 
 -- the line of the text is noted
-told : (g : _) (c : After-note g)
+text_noted : (g : _) (c : After-note g)
     → c.note.new.lines.items ≡ c.args.ledger.now.lines.items ++ Delivered c.args.number c.len-length.result ∷ []
-told g c = c.note.ensures.items ∙ ap (λ (v : Vec ReportLine _). v.items ++ Delivered c.args.number c.len-length.result ∷ [])
+text_noted g c = c.note.ensures.items ∙ ap (λ (v : Vec ReportLine _). v.items ++ Delivered c.args.number c.len-length.result ∷ [])
     c.append_text.ensures.ledger.lines
 
 noted : (g : _) (c : After-note g) → AddsLines c.args.ledger.now.lines 1 c.note.new.lines
@@ -54,11 +54,11 @@ Wrote g c r = g.F.FlatFile.sound c.append_text.new.mbox → g.F.FlatFile.sound c
     (known_file g.F.FlatFile c.args.ledger.now.file) r (known_file g.F.FlatFile c.append_text.new.mbox)
     (known_file g.F.FlatFile c.append_text.new.ledger.file) c.append_text.new.ledger.seen.intent
 
-law : (g : _) (c : After-append_text g) (r : Result (Unit {0}) Fault) → Wrote g c r → g.F.FlatFile.sound c.append_text.new.mbox
+entry_law : (g : _) (c : After-append_text g) (r : Result (Unit {0}) Fault) → Wrote g c r → g.F.FlatFile.sound c.append_text.new.mbox
     → g.F.FlatFile.sound c.append_text.new.ledger.file → DurablyEnters c.args.ledger.now.seen.rows c.args.uid.now
     c.in_ok-text.text.items (known_file g.F.FlatFile c.args.mbox.now) (known_file g.F.FlatFile c.args.ledger.now.file) r
     (known_file g.F.FlatFile c.append_text.new.mbox) (known_file g.F.FlatFile c.append_text.new.ledger.file)
-law g c r wrote m f = durably_enters c.args.ledger.now.seen.rows c.args.uid.now c.in_ok-text.text.items
+entry_law g c r wrote m f = durably_enters c.args.ledger.now.seen.rows c.args.uid.now c.in_ok-text.text.items
     (known_file g.F.FlatFile c.args.mbox.now) (known_file g.F.FlatFile c.args.ledger.now.file) r
     (known_file g.F.FlatFile c.append_text.new.mbox) (known_file g.F.FlatFile c.append_text.new.ledger.file)
     c.append_text.new.ledger.seen.intent (c.requires.ready.steady (wrote m f).1) (wrote m f).2
@@ -168,7 +168,7 @@ returns-in_err-append_text g c =
       takes = both_sound (read g here.In_ok-text) (sees g here.After-append_text (Err fault) wrote) (λ text _ refuses.
           inr (inl (inr (inl (text_refused c.in_ok-text.text.items fault text refuses kept.ledger.rows
           (ap (λ (v : Vec ReportLine _). v.items) kept.ledger.lines)).0))));
-      keeps = λ m f. let l = law g here.After-append_text (Err fault) wrote m f in (l.keeps, l.rows_last);
+      keeps = λ m f. let l = entry_law g here.After-append_text (Err fault) wrote m f in (l.keeps, l.rows_last);
       durable = λ m f trust safe. (
         tt,
         λ whole w firm bytes has left may now is seen there.
@@ -177,7 +177,7 @@ returns-in_err-append_text g c =
             (ap (λ (v : Vec ReportLine _). v.items) kept.ledger.lines) in
             inr (inl (
               e,
-              rw (its, text) ((law g here.After-append_text (Err fault) wrote m f).cut trust safe whole firm bytes has left may
+              rw (its, text) ((entry_law g here.After-append_text (Err fault) wrote m f).cut trust safe whole firm bytes has left may
                   now is seen there),
             )),
       );
@@ -203,10 +203,10 @@ returns g c =
           (λ text f appends.
           entry_stored c.len-length.result c.in_ok-text.text.items (stored_in g.F.FlatFile c.append_text.new.ledger.file)
           c.args.ledger.now.seen c.append_text.new.ledger.seen text
-          (long g here.After-len-length) appends kept.ledger.rows marks.rows (marked f).sees (told g here.After-note));
-      keeps = λ m f. let l = law g here.After-append_text (Ok tt) wrote m (marks.appends f).0 in
+          (text_counted g here.After-len-length) appends kept.ledger.rows marks.rows (marked f).sees (text_noted g here.After-note));
+      keeps = λ m f. let l = entry_law g here.After-append_text (Ok tt) wrote m (marks.appends f).0 in
           (l.keeps, λ last. (marked f).keeps c.args.ledger.now.seen.rows (l.rows_last last));
-      durable = λ m f trust safe. let all = (law g here.After-append_text (Ok tt) wrote m (marks.appends f).0).durable trust safe in
+      durable = λ m f trust safe. let all = (entry_law g here.After-append_text (Ok tt) wrote m (marks.appends f).0).durable trust safe in
           ((all.0, (marked f).durable all.1), λ whole w. tt);
     })
 
@@ -230,20 +230,20 @@ returns-in_err-remember g c =
           (λ text f appends.
           inr (inr (entry_not_saved c.len-length.result c.in_ok-text.text.items
           (stored_in g.F.FlatFile c.append_text.new.ledger.file) c.args.ledger.now.seen c.append_text.new.ledger.seen
-          fault text (long g here.After-len-length) appends kept.ledger.rows (marked f).sees (told g here.After-note)).0));
-      keeps = λ m f. let l = law g here.After-append_text (Ok tt) wrote m (marks.appends f).0 in
+          fault text (text_counted g here.After-len-length) appends kept.ledger.rows (marked f).sees (text_noted g here.After-note)).0));
+      keeps = λ m f. let l = entry_law g here.After-append_text (Ok tt) wrote m (marks.appends f).0 in
           (l.keeps, λ last. (marked f).keeps c.args.ledger.now.seen.rows (l.rows_last last));
       durable = λ m f trust safe. (
         tt,
         λ whole w firm bytes has left may now is seen there.
             let before = (marks.appends f).0 in
-            let all = (law g here.After-append_text (Ok tt) wrote m before).durable trust safe in
+            let all = (entry_law g here.After-append_text (Ok tt) wrote m before).durable trust safe in
             let (mbox_sound, file_sound, (was, follows, holds, opened, saves)) = sees g here.After-append_text (Ok tt) wrote m before in
             let text = c.in_ok-text.text.items in
             let (u, its, texts) = entry_not_saved c.len-length.result text
             (stored_in g.F.FlatFile c.append_text.new.ledger.file) c.args.ledger.now.seen c.append_text.new.ledger.seen
-            fault (read g here.In_ok-text w).2 (long g here.After-len-length)
-            (was, follows, holds, opened, saves) kept.ledger.rows (marked f).sees (told g here.After-note) in
+            fault (read g here.In_ok-text w).2 (text_counted g here.After-len-length)
+            (was, follows, holds, opened, saves) kept.ledger.rows (marked f).sees (text_noted g here.After-note) in
             inr (inr (
               u,
               rw (its, texts) (subst (λ (b : List ℕ). IsEntryLeft c.args.ledger.now.seen.rows b c.args.uid.now text seen left)

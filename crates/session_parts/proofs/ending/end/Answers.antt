@@ -10,8 +10,8 @@ use Rattle.session_parts.{
 }
 use Rattle.session_parts.proofs.ending.end.Goals as goal
 
-looked : (g : _) (c : After-look_again g) → Looked g.D.MaildirDisk g.F.FlatFile c.args.work.now c.look_again.new.store
-looked g c = record {
+looks_at_end : (g : _) (c : After-look_again g) → Looked g.D.MaildirDisk g.F.FlatFile c.args.work.now c.look_again.new.store
+looks_at_end g c = record {
   ready = c.requires;
   kind = c.look_again.ensures.kind;
   same = λ d. let looks = c.look_again.ensures.looks d
@@ -22,7 +22,7 @@ looked g c = record {
 -- the look was refused
 pub returns-in_err-told : goal.returns-in_err-told
 returns-in_err-told g c =
-    let is = looked g (goal.at.returns-in_err-told g c).After-look_again in
+    let is = looks_at_end g (goal.at.returns-in_err-told g c).After-look_again in
     rw (err_is c.from_residual.ensures.1) (record {
       told = tt;
       link = link_with_tail (link_idle {limit = 0});
@@ -38,7 +38,7 @@ returns-in_err-told g c =
 pub returns : goal.returns
 returns g c =
     let work = c.args.work.now in
-    let is = looked g (goal.at.returns g c).After-look_again in
+    let is = looks_at_end g (goal.at.returns g c).After-look_again in
     let took = did_so g.W.Wire c.in_ok-quit.ensures.completes (took_completing c.conversations_are_paced.ensures quit _ _ (Ok tt)) in
     record {
       told = λ d. rw c.deref.ensures.value at (look_told (kind_of work.store) _ _ _ c.in_ok-told.told (c.in_ok-told.ensures.looks d).1).0;
@@ -61,7 +61,7 @@ returns g c =
 pub returns-in_err-quit : goal.returns-in_err-quit
 returns-in_err-quit g c =
     let work = c.args.work.now in
-    let is = looked g (goal.at.returns-in_err-quit g c).After-look_again in
+    let is = looks_at_end g (goal.at.returns-in_err-quit g c).After-look_again in
     let broken = c.in_err-quit.ensures.completes in
     rw (err_is c.from_residual-in_err-quit.ensures.1) (record {
       told = tt;

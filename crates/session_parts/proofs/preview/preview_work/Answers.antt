@@ -1,5 +1,5 @@
 use Rattle.session_parts.{
-  proofs.{TalkLemmas.err_is, ReadyLemmas.{told_of, untaken}, SessionLemmas.{not_looked, not_read, not_told, work_preview}},
+  proofs.{TalkLemmas.err_is, ReadyLemmas.{told_of, untaken}, SessionLemmas.{not_looked, record_unread, memory_ran_out, work_preview}},
   specs.Target.target_of,
 }
 use Rattle.session_parts.proofs.preview.preview_work.Goals as goal
@@ -16,7 +16,7 @@ returns-in_err-read-clause-previews g c = rw (err_is c.from_residual.ensures.1) 
     let reads = c.in_err-read.ensures.reads f in (
       d,
       reads.0,
-      untaken _ (not_read c.args.terms.settings.now
+      untaken _ (record_unread c.args.terms.settings.now
           (target_of c.args.work.now.store c.args.terms.account.now) c.args.listing.now c.args.terms.now _ _ _ c.read.new.seen _ reads.1),
     ))
 
@@ -39,7 +39,7 @@ pub returns-in_err-preview_merged-clause-previews : goal.returns-in_err-preview_
 returns-in_err-preview_merged-clause-previews g c = rw (err_is c.from_residual-in_err-preview_merged.ensures.1) (λ d f.
     let reads = c.in_ok-read.ensures.reads f in
     told_of (c.in_ok-found.ensures.looks d) reads.0 (λ left is.
-    not_told c.args.terms.settings.now (target_of c.args.work.now.store c.args.terms.account.now) c.args.listing.now
+    memory_ran_out c.args.terms.settings.now (target_of c.args.work.now.store c.args.terms.account.now) c.args.listing.now
     c.args.terms.now _ _ _ c.read.new.seen.intent _ c.in_ok-found.found reads.1.2 is))
 
 pub preview_merged-requires : goal.preview_merged-requires

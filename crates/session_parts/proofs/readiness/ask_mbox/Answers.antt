@@ -67,26 +67,26 @@ returns-clause-durable g c = λ kept trust.
     durable_safe g.F.FlatFile c.check_mbox.new.file refl firm
 
 -- what is left after another flush could be left before it
-settled : (a b b' : Option (List ℕ) → Type 0) (intent : Option Intent) (content : Option (List ℕ)) → LeavesNoMore b b'
+settled_after_flush : (a b b' : Option (List ℕ) → Type 0) (intent : Option Intent) (content : Option (List ℕ)) → LeavesNoMore b b'
     → LeavesSettled intent content a b → LeavesSettled intent content a b'
-settled a b b' None content no_more leaves = λ left may. leaves left (no_more left may)
-settled a b b' (Some intent) content no_more leaves = λ left may. leaves left (no_more left may)
+settled_after_flush a b b' None content no_more leaves = λ left may. leaves left (no_more left may)
+settled_after_flush a b b' (Some intent) content no_more leaves = λ left may. leaves left (no_more left may)
 
-checked : (g : _) (c : After-check_mbox g) → g.F.FlatFile.sound c.check_mbox.new.file → Trusted (g.F.FlatFile.disk c.args.mbox.now).now
+check_leaves : (g : _) (c : After-check_mbox g) → g.F.FlatFile.sound c.check_mbox.new.file → Trusted (g.F.FlatFile.disk c.args.mbox.now).now
     → LeavesSettled c.args.seen.now.intent (stored_in g.F.FlatFile c.args.mbox.now).content
     (MayLeave (g.F.FlatFile.disk c.args.mbox.now)) (MayLeave (g.F.FlatFile.disk c.check_mbox.new.file))
-checked g c kept trust = settled _ _ _ c.args.seen.now.intent (stored_in g.F.FlatFile c.args.mbox.now).content
+check_leaves g c kept trust = settled_after_flush _ _ _ c.args.seen.now.intent (stored_in g.F.FlatFile c.args.mbox.now).content
     (durable_flush (g.F.FlatFile.disk c.settle.new.mbox) (g.F.FlatFile.disk c.check_mbox.new.file) c.check_mbox.result
     (c.check_mbox.ensures.checks kept).1.1).no_more (c.settle.ensures.leaves (c.check_mbox.ensures.checks kept).0 trust)
 
 pub returns-in_err-check_mbox-clause-leaves : goal.returns-in_err-check_mbox-clause-leaves
-returns-in_err-check_mbox-clause-leaves g c = checked g (goal.at.returns-in_err-check_mbox-clause-leaves g c).After-check_mbox
+returns-in_err-check_mbox-clause-leaves g c = check_leaves g (goal.at.returns-in_err-check_mbox-clause-leaves g c).After-check_mbox
 
 pub returns-in_err-held-clause-leaves : goal.returns-in_err-held-clause-leaves
-returns-in_err-held-clause-leaves g c = checked g (goal.at.returns-in_err-held-clause-leaves g c).After-check_mbox
+returns-in_err-held-clause-leaves g c = check_leaves g (goal.at.returns-in_err-held-clause-leaves g c).After-check_mbox
 
 pub returns-in_err-odd-clause-leaves : goal.returns-in_err-odd-clause-leaves
-returns-in_err-odd-clause-leaves g c = checked g (goal.at.returns-in_err-odd-clause-leaves g c).After-check_mbox
+returns-in_err-odd-clause-leaves g c = check_leaves g (goal.at.returns-in_err-odd-clause-leaves g c).After-check_mbox
 
 pub returns-clause-leaves : goal.returns-clause-leaves
-returns-clause-leaves g c = checked g (goal.at.returns-clause-leaves g c).After-check_mbox
+returns-clause-leaves g c = check_leaves g (goal.at.returns-clause-leaves g c).After-check_mbox

@@ -2,7 +2,7 @@ use Rattle.mail_store.specs.Devices.{stored_in}
 use Rattle.std.proofs.Common.{ap, inl, inr, length, refl, sym, ◌∙◌, Ok, Err}
 use Rattle.session_parts.{
   proofs.{TalkLemmas.err_is, SceneLemmas.read_keeps},
-  proofs.ReadyLemmas.{all_have_rows, told_of, by_ids_length, found_as_held, not_before, not_found, planned_length, ready, unready},
+  proofs.ReadyLemmas.{all_have_rows, told_of, by_ids_length, found_as_held, not_before, finding_refused, planned_length, ready, unready},
   specs.{Record.record_state_in, Target.target_of},
 }
 use Rattle.session_parts.proofs.readiness.prepare_by_store.Goals as goal
@@ -49,7 +49,7 @@ pub returns-in_err-found-clause-readies : goal.returns-in_err-found-clause-readi
 returns-in_err-found-clause-readies g c = rw (err_is c.from_residual.ensures.1)
     (λ d f. told_of (c.in_err-found.ensures.finds d) f (λ left finds. record {
       readies = record {
-        cause = not_found _ (target_of c.args.work.now.store c.args.terms.account.now) _ _ _ _ _ c.args.work.now.ledger.seen
+        cause = finding_refused _ (target_of c.args.work.now.store c.args.terms.account.now) _ _ _ _ _ c.args.work.now.ledger.seen
             c.in_err-found.field-0.0 (c.requires.read.stands f) finds;
         content = inl refl;
       };

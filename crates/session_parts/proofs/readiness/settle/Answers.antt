@@ -14,8 +14,8 @@ use Rattle.session_parts.proofs.readiness.settle.Goals as goal
 abbrev intent_is : (g : _) → In-Some g → Intent
 intent_is g c = record { uid = c.in-Some.intent.uid.now; start = c.in-Some.intent.start; len = c.in-Some.intent.len }
 
-opened : (g : _) (c : In-Some g) → Some (intent_is g c) ≡ c.args.seen.now.intent
-opened g c = rw c.in-Some.is at c.intent.ensures
+intent_opened : (g : _) (c : In-Some g) → Some (intent_is g c) ≡ c.args.seen.now.intent
+intent_opened g c = rw c.in-Some.is at c.intent.ensures
 
 pub returns-in_err-settle_file-clause-settles : goal.returns-in_err-settle_file-clause-settles
 returns-in_err-settle_file-clause-settles g c =
@@ -25,7 +25,7 @@ returns-in_err-settle_file-clause-settles g c =
     rw p.1 (λ kept. let did = c.in_err-settle_file.ensures.settles kept in (
       did.0,
       subst (λ (o : Option Intent). SettlesIntent o c.args.listing.now (stored_in g.F.FlatFile c.args.mbox.now) (Err p.0)
-          (stored_in g.F.FlatFile c.settle_file.new.file)) (opened g here)
+          (stored_in g.F.FlatFile c.settle_file.new.file)) (intent_opened g here)
           (settles_err (intent_is g here) c.args.listing.now (known_file g.F.FlatFile c.args.mbox.now)
           (known_file g.F.FlatFile c.settle_file.new.file) why p.0 (subst (λ (listed : Option ℕ). SettlesFile c.in-Some.intent.start
           c.in-Some.intent.len listed (g.F.FlatFile.disk c.args.mbox.now) (Err why) (g.F.FlatFile.disk c.settle_file.new.file))
@@ -44,7 +44,7 @@ pub returns-in_err-settle_file-clause-leaves : goal.returns-in_err-settle_file-c
 returns-in_err-settle_file-clause-leaves g c = λ kept trust.
     let here = (goal.at.returns-in_err-settle_file-clause-leaves g c).In-Some in
     subst (λ (o : Option Intent). LeavesSettled o (stored_in g.F.FlatFile c.args.mbox.now).content
-    (MayLeave (g.F.FlatFile.disk c.args.mbox.now)) (MayLeave (g.F.FlatFile.disk c.settle_file.new.file))) (opened g here)
+    (MayLeave (g.F.FlatFile.disk c.args.mbox.now)) (MayLeave (g.F.FlatFile.disk c.settle_file.new.file))) (intent_opened g here)
     (settled_left (intent_is g here) c.args.listing.now (known_file g.F.FlatFile c.args.mbox.now)
     (known_file g.F.FlatFile c.settle_file.new.file) c.settle_file.result
     (rw c.listed_size-listed.ensures at (c.settle_file.ensures.settles kept).1) trust)
@@ -53,7 +53,7 @@ pub returns-clause-leaves : goal.returns-clause-leaves
 returns-clause-leaves g c = λ kept trust.
     let here = (goal.at.returns-clause-leaves g c).In-Some in
     subst (λ (o : Option Intent). LeavesSettled o (stored_in g.F.FlatFile c.args.mbox.now).content
-    (MayLeave (g.F.FlatFile.disk c.args.mbox.now)) (MayLeave (g.F.FlatFile.disk c.settle_file.new.file))) (opened g here)
+    (MayLeave (g.F.FlatFile.disk c.args.mbox.now)) (MayLeave (g.F.FlatFile.disk c.settle_file.new.file))) (intent_opened g here)
     (settled_left (intent_is g here) c.args.listing.now (known_file g.F.FlatFile c.args.mbox.now)
     (known_file g.F.FlatFile c.settle_file.new.file) c.settle_file.result
     (rw c.listed_size-listed.ensures at (c.settle_file.ensures.settles kept).1) trust)

@@ -23,9 +23,9 @@ grow-requires g c = record {
 }
 
 -- the line that was appended opens the intent
-grows : (g : _) (c : After-grow g) → Grows c.args.seen.now.rows None c.deref.result.now c.args.seen.now.rows
+grows_by_intent : (g : _) (c : After-grow g) → Grows c.args.seen.now.rows None c.deref.result.now c.args.seen.now.rows
     (Some (intent_at c.args.uid.now c.args.start c.args.len))
-grows g c = opens _ _ c.deref.result.now (record {
+grows_by_intent g c = opens _ _ c.deref.result.now (record {
   legal = c.requires.legal;
   start = c.ranges.start.fits;
   len = c.ranges.len.fits;
@@ -49,7 +49,7 @@ returns-in_err-grow-clause-intends g c = λ kept.
         told.1,
         calls_append (none_open rows) (with_open rows (intent_at c.args.uid.now c.args.start c.args.len)) c.deref.result.now mid
             (known_file g.F.FlatFile c.grow.new.file) (Err c.in_err-grow.field-0.0)
-            (grows g (goal.at.returns-in_err-grow-clause-intends g c).After-grow) did.1,
+            (grows_by_intent g (goal.at.returns-in_err-grow-clause-intends g c).After-grow) did.1,
       )),
     )
 
@@ -61,6 +61,6 @@ returns-clause-intends g c = λ kept.
       (
         known_file g.F.FlatFile c.measure.new.file,
         told.1,
-        (c.deref.result.now, grows g (goal.at.returns-clause-intends g c).After-grow, did.1),
+        (c.deref.result.now, grows_by_intent g (goal.at.returns-clause-intends g c).After-grow, did.1),
       ),
     )

@@ -16,9 +16,9 @@ grow-requires g c = record {
 }
 
 -- what was appended marks the id's row, and ends the intent
-updates : (g : _) (c : After-grow g) → Updates c.args.seen.now.rows c.args.seen.now.intent c.deref.result.now
+marking_updates : (g : _) (c : After-grow g) → Updates c.args.seen.now.rows c.args.seen.now.intent c.deref.result.now
     (marked c.args.seen.now.rows c.args.uid.now) None
-updates g c = rw c.deref.ensures.value (rw c.in_ok-group.ensures.after at c.in_ok-group.ensures.updates)
+marking_updates g c = rw c.deref.ensures.value (rw c.in_ok-group.ensures.after at c.in_ok-group.ensures.updates)
 
 pub returns-clause-appends : goal.returns-clause-appends
 returns-clause-appends g c = λ kept.
@@ -26,5 +26,5 @@ returns-clause-appends g c = λ kept.
       did.0,
       calls_append (record_state_in c.args.seen.now) (none_open (marked c.args.seen.now.rows c.args.uid.now)) c.deref.result.now
           (known_file g.F.FlatFile c.args.file.now) (known_file g.F.FlatFile c.grow.new.file) c.grow.result
-          (inl (updates g (goal.at.returns-clause-appends g c).After-grow)) did.1,
+          (inl (marking_updates g (goal.at.returns-clause-appends g c).After-grow)) did.1,
     )
