@@ -16,7 +16,7 @@ use Rattle.pop3_server.{
   specs.{AnswersLines.{AnswersLine, AnswersLines}, LoopLink.{Loop, Serves}, Maildrop.{DropMail, there}},
   specs.{ServerMachine.{Machine, greeting_line}, HonestServer.{IsAsked, command_lines, unmarked_of}},
   specs.declared.state.State.TheVariants.{Authorization},
-  proofs.HonestLemmas.{answers_honestly, cut_at, did_sound},
+  proofs.HonestLemmas.{answers_honestly, lines_cut, did_sound},
 }
 use Rattle.rc_file.specs.declared.settings.Settings.{Settings}
 use Rattle.mail_store.specs.FileName.{is_odd}
@@ -125,7 +125,7 @@ module _ {M : Type 0} (sound : M → Type 0) (mail : M → DropMail) where
     -- the server answered all commands
     run : AnswersLines sound mail server (command_lines commands) heard serves.last
     run =
-        let cut = cut_at serves.lines commands wire.waiting talk.asked.part serves.each asked talk.asked.no_line
+        let cut = lines_cut serves.lines commands wire.waiting talk.asked.part serves.each asked talk.asked.no_line
         (sym serves.heard ∙ sym serves.sent ∙ talk.asked.whole
         ∙ ap (λ (l : List ℕ). l ++ talk.asked.part) (sym (flat_map-map ended line_of commands))) in
         let answered : AnswersLines sound mail server (command_lines cut.first) heard serves.last =

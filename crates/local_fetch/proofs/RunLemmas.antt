@@ -18,7 +18,7 @@ use Rattle.pop3_server.{
   specs.Maildrop.{DropMail, there},
   specs.ServerMachine.{DoesAction, Empties, Machine, action_of, is_open, left_count, left_total, listed, mark_at, message_row, said},
   specs.ServerMachine.{row_numbered, scan_line, uid_line, unless_marked},
-  proofs.HonestLemmas.{AreServed, IsServed, are_served, did_sound, fresh_count, fresh_rows, left_of, run_sound},
+  proofs.HonestLemmas.{AreServed, IsServed, are_served, did_sound, fresh_count, fresh_rows, count_left, run_sound},
   proofs.RemovalLemmas.some_refused,
 }
 use Rattle.fetch_runs.proofs.Turns.{CanBeSaid}
@@ -110,7 +110,7 @@ marked_at ms rows i k less was = record {
 -- what STAT tells of fresh rows
 fresh_left : (ms : List Message) → AreServed ms → (left_count (map message_row ms) ≡ length ms) × (left_total (map message_row ms) < 2 ^ 64)
 fresh_left ms served =
-    let left = left_of ms (no_marks ms) served.served (length-map ms _) in
+    let left = count_left ms (no_marks ms) served.served (length-map ms _) in
     let few : length ms ≤ 100000 = served.few in
     rw (fresh_rows ms) (left.0 ∙ fresh_count ms, omega (arith, left.1, few))
 

@@ -74,38 +74,38 @@ marked_rows (m ∷ ms) (b ∷ bs) zero = refl
 marked_rows (m ∷ ms) (b ∷ bs) (suc i) = ap (λ (rows : List MessageRow). row_with m b ∷ rows) (marked_rows ms bs i)
 
 -- the row at a place is that of an unmarked message, which is at this place, or there is none
-found_at : (ms : List Message) (bs : List Bool) (i : ℕ) → AllByRecursion IsServed ms
+unmarked_at : (ms : List Message) (bs : List Bool) (i : ℕ) → AllByRecursion IsServed ms
     → (unless_marked (slice_get (rows_with ms bs) i) ≡ None)
     ⊎ ((m : Message) × (unless_marked (slice_get (rows_with ms bs) i) ≡ Some (row_with m false)) × (slice_get ms i ≡ Some m)
     × (slice_get (map Some ms) i ≡ Some (Some m)) × IsServed m)
-found_at [] bs i all = inl refl
-found_at (m ∷ ms) [] i all = inl refl
-found_at (m ∷ ms) (true ∷ bs) zero all = inl refl
-found_at (m ∷ ms) (false ∷ bs) zero all = inr (m, refl, refl, refl, all.0)
-found_at (m ∷ ms) (b ∷ bs) (suc i) all = found_at ms bs i all.1
+unmarked_at [] bs i all = inl refl
+unmarked_at (m ∷ ms) [] i all = inl refl
+unmarked_at (m ∷ ms) (true ∷ bs) zero all = inl refl
+unmarked_at (m ∷ ms) (false ∷ bs) zero all = inr (m, refl, refl, refl, all.0)
+unmarked_at (m ∷ ms) (b ∷ bs) (suc i) all = unmarked_at ms bs i all.1
 
-pub found : (ms : List Message) (bs : List Bool) (k : ℕ) → AllByRecursion IsServed ms → (row_numbered (rows_with ms bs) k ≡ None)
+pub unmarked_row : (ms : List Message) (bs : List Bool) (k : ℕ) → AllByRecursion IsServed ms → (row_numbered (rows_with ms bs) k ≡ None)
     ⊎ ((m : Message) × (row_numbered (rows_with ms bs) k ≡ Some (row_with m false)) × (slice_get ms (k - 1) ≡ Some m)
     × (slice_get (map Some ms) (k - 1) ≡ Some (Some m)) × IsServed m)
-found ms bs k all = elim (eqb_tells k 0) [
+unmarked_row ms bs k all = elim (eqb_tells k 0) [
   | inl p ↦ inl (cond-true _ _ _ p.0)
-  | inr p ↦ elim (found_at ms bs (k - 1) all) [
+  | inr p ↦ elim (unmarked_at ms bs (k - 1) all) [
     | inl none ↦ inl (cond-false _ _ _ p.0 ∙ none)
     | inr some ↦ inr (some.0, cond-false _ _ _ p.0 ∙ some.1, some.2, some.3, some.4)
   ]
 ]
 
 -- how many messages aren't marked, and a bound of their octets
-pub left_of : (ms : List Message) (bs : List Bool) → AllByRecursion IsServed ms → length bs ≡ length ms
+pub count_left : (ms : List Message) (bs : List Bool) → AllByRecursion IsServed ms → length bs ≡ length ms
     → (left_count (rows_with ms bs) ≡ count_by not bs) × (left_total (rows_with ms bs) ≤ 134217728 * length ms)
-left_of [] [] all e = (refl, omega arith)
-left_of [] (b ∷ bs) all e = absurd (omega arith)
-left_of (m ∷ ms) [] all e = absurd (omega arith)
-left_of (m ∷ ms) (b ∷ bs) all e =
+count_left [] [] all e = (refl, omega arith)
+count_left [] (b ∷ bs) all e = absurd (omega arith)
+count_left (m ∷ ms) [] all e = absurd (omega arith)
+count_left (m ∷ ms) (b ∷ bs) all e =
     grind (
       arith,
       all.0.within,
-      left_of ms bs all.1 (omega arith),
+      count_left ms bs all.1 (omega arith),
       sum_by-cons (λ row. cond (is_unmarked row) 1 0) (row_with m b) (rows_with ms bs),
       sum_by-cons (λ b. cond (not b) 1 0) b bs,
       sum_by-cons left_size (row_with m b) (rows_with ms bs),
@@ -113,9 +113,9 @@ left_of (m ∷ ms) (b ∷ bs) all e =
 
 -- ---- first lines
 
-pub refused : (ms : List Message) (bs : List Bool) (c : Command) (answer after : List ℕ)
+pub reply_refuses : (ms : List Message) (bs : List Bool) (c : Command) (answer after : List ℕ)
     → answer ≡ said (codes "-ERR" ++ after) → HoldsNoLf after → Reply ms bs c answer bs
-refused ms bs c answer after is none = inl ((after, ((first_lines_are_read Negative after none).0, is)), refl)
+reply_refuses ms bs c answer after is none = inl ((after, ((first_lines_are_read Negative after none).0, is)), refl)
 
 pub granted : (answer after : List ℕ) → answer ≡ said (codes "+OK" ++ after) → HoldsNoLf after → SaysAnything Positive answer
 granted answer after is none = (after, ((first_lines_are_read Positive after none).0, is))
@@ -134,9 +134,9 @@ unmarked_from number (m ∷ ms) [] = []
 unmarked_from number (m ∷ ms) (mark ∷ marks) = cond mark (unmarked_from (number + 1) ms marks)
     ((number, m) ∷ unmarked_from (number + 1) ms marks)
 
-fresh : (n : ℕ) (ms : List Message) → unmarked_from n ms (no_marks ms) ≡ enumerate_from n ms
-fresh n [] = refl
-fresh n (m ∷ ms) = ap (λ (l : List (ℕ × Message)). (n, m) ∷ l) (fresh (n + 1) ms)
+all_listed : (n : ℕ) (ms : List Message) → unmarked_from n ms (no_marks ms) ≡ enumerate_from n ms
+all_listed n [] = refl
+all_listed n (m ∷ ms) = ap (λ (l : List (ℕ × Message)). (n, m) ∷ l) (all_listed (n + 1) ms)
 
 pub fresh_count : (ms : List Message) → count_by not (no_marks ms) ≡ length ms
 fresh_count [] = refl
@@ -184,7 +184,7 @@ lists_all line IsRow good ms bs answer served is =
         rows = λ none. (
           enumerate_from 1 ms,
           IsPermutation-refl (enumerate_from 1 ms),
-          subst (λ (q : List (ℕ × Message)). AllZip IsRow q (map unstuffed rows.0)) (ap (unmarked_from 1 ms) none ∙ fresh 1 ms) rows.3,
+          subst (λ (q : List (ℕ × Message)). AllZip IsRow q (map unstuffed rows.0)) (ap (unmarked_from 1 ms) none ∙ all_listed 1 ms) rows.3,
         );
       },
       refl,
@@ -238,7 +238,7 @@ module _ {D : Type 0} (sound : D → Type 0) (mail : D
       × (next ≡ state) × (new ≡ old)
       → HoldsNoLf after → IsStateWith ms state (mail old) marks → is_open state ≡ true → Replied ms marks c answer next (mail new)
   says_no {marks} {c} after does none stands opened =
-      replies marks does.1 (ap mail does.2) (refused ms marks c answer after does.0 none) stands (inl opened)
+      replies marks does.1 (ap mail does.2) (reply_refuses ms marks c answer after does.0 none) stands (inl opened)
 
   -- a line that says yes, if no more is asked for
   says_yes : {marks : List Bool} {c : Command} {state : State} (after_marks : List Bool) (after : List ℕ)
@@ -256,7 +256,7 @@ module _ {D : Type 0} (sound : D → Type 0) (mail : D
   passed word false same does = says_no (codes " refused") does refl (same, refl) refl
   passed word true same (inl (is, state, known)) =
       replies (no_marks ms) state (known s).1
-      (refused ms (no_marks ms) (Pass word) answer (codes " maildrop unavailable") is refl) (same, refl) (inl refl)
+      (reply_refuses ms (no_marks ms) (Pass word) answer (codes " maildrop unavailable") is refl) (same, refl) (inl refl)
   passed word true same (inr (rows, limits, is, state, known)) =
       let drop = (known s).1 in
       let same_rows : rows ≡ map message_row ms = drop.1 ∙ ap (map message_row) same in
@@ -285,7 +285,7 @@ module _ {D : Type 0} (sound : D → Type 0) (mail : D
         → DoesAction sound mail (Give (rows_with ms marks) (k - 1) (said (octets_line (row_with m false))) None) old
         answer next new → Replied ms marks (Retr k) answer next (mail new)
     gave k m at slot served (state, inl (is, known)) =
-        replies marks state (known s).1 (refused ms marks (Retr k) answer (codes " message unavailable") is refl) stands (inl refl)
+        replies marks state (known s).1 (reply_refuses ms marks (Retr k) answer (codes " message unavailable") is refl) stands (inl refl)
     gave k m at slot served (state, inr (text, is, known)) =
         let drop = (known s).1 in
         let found = rw stands.0 at drop.1.1 in
@@ -310,7 +310,7 @@ module _ {D : Type 0} (sound : D → Type 0) (mail : D
     stated does =
         let count = left_count (rows_with ms marks) in
         let total = left_total (rows_with ms marks) in
-        let left = left_of ms marks stands.3.served stands.1 in
+        let left = count_left ms marks stands.3.served stands.1 in
         let few : count_by not marks ≤ length marks = count_by-le-length not marks in
         let fewer : length marks ≤ 100000 = rw stands.1 stands.3.few in
         let small : count ≤ 4294967295 = omega arith in
@@ -338,11 +338,11 @@ module _ {D : Type 0} (sound : D → Type 0) (mail : D
     in_trans ListAll asked does =
         replies marks does.1 (ap mail does.2)
         (inr (lists_all scan_line IsScanRow (scan_rows) ms marks answer stands.3 does.0)) stands (inl refl)
-    in_trans (Retr k) asked does = elim (found ms marks k stands.3.served) [
+    in_trans (Retr k) asked does = elim (unmarked_row ms marks k stands.3.served) [
       | inl none ↦ says_no (codes " no such message") (rw none at does) refl stands refl
       | inr some ↦ gave k some.0 some.2 some.3 some.4 (rw some.1 at does)
     ]
-    in_trans (Dele k) asked does = elim (found ms marks k stands.3.served) [
+    in_trans (Dele k) asked does = elim (unmarked_row ms marks k stands.3.served) [
       | inl none ↦ says_no (codes " no such message") (rw none at does) refl stands refl
       | inr some ↦ says_yes (slice_set marks (k - 1) true) (codes " marked") (rw some.1 at does) refl (λ says. (says, refl))
           (stands.0, length-set marks (k - 1) true ∙ stands.1, marked_rows ms marks (k - 1), stands.3) (inl refl)
@@ -359,7 +359,7 @@ module _ {D : Type 0} (sound : D → Type 0) (mail : D
         replies marks state refl (inr (granted answer (codes " bye") is refl, refl))
         (left_by_quit ms marks (mail old) (mail new) true stands.1 stands.0 (known s).1) (inr refl)
     in_trans Quit asked (state, (false, is, known)) =
-        replies marks state refl (refused ms marks Quit answer (codes " some messages not removed") is refl)
+        replies marks state refl (reply_refuses ms marks Quit answer (codes " some messages not removed") is refl)
         (left_by_quit ms marks (mail old) (mail new) false stands.1 stands.0 (known s).1) (inr refl)
     in_trans other asked does = absurd asked
 
@@ -506,15 +506,15 @@ pub record Cut (lines : List (List ℕ)) (commands : List Command) (waiting part
   pub lines_are : lines ≡ command_lines first
   pub rest : waiting ≡ flat_map ended (command_lines later) ++ part
 
-pub cut_at : (lines : List (List ℕ)) (commands : List Command) (waiting part : List ℕ) → AllByRecursion IsLine lines
+pub lines_cut : (lines : List (List ℕ)) (commands : List Command) (waiting part : List ℕ) → AllByRecursion IsLine lines
     → AllByRecursion IsAsked commands → IsLine part
     → flat_map ended lines ++ waiting ≡ flat_map ended (command_lines commands) ++ part → Cut lines commands waiting part
-cut_at [] commands waiting part each asked whole e = record { first = []; later = commands; all = refl; lines_are = refl; rest = e }
-cut_at (l ∷ ls) [] waiting part each asked whole e = absurd (whole l _ (simp append_assoc at (sym e)))
-cut_at (l ∷ ls) (c ∷ cs) waiting part each asked whole e =
+lines_cut [] commands waiting part each asked whole e = record { first = []; later = commands; all = refl; lines_are = refl; rest = e }
+lines_cut (l ∷ ls) [] waiting part each asked whole e = absurd (whole l _ (simp append_assoc at (sym e)))
+lines_cut (l ∷ ls) (c ∷ cs) waiting part each asked whole e =
     let same = one_line l (line_of c) _ _ each.0 (is_line c asked.0.numbers asked.0.sendable)
     (rw (append_assoc (ended l), append_assoc (ended (line_of c))) at e) in
-    let more = cut_at ls cs waiting part each.1 asked.1 whole same.1 in
+    let more = lines_cut ls cs waiting part each.1 asked.1 whole same.1 in
     record {
       first = c ∷ more.first;
       later = more.later;
@@ -539,7 +539,7 @@ refused_all ms marks (c ∷ commands) = (
   nos commands,
   marks,
   refl,
-  refused ms marks c (said (codes "-ERR")) [] refl refl,
+  reply_refuses ms marks c (said (codes "-ERR")) [] refl refl,
   refused_all ms marks commands,
 )
 
@@ -567,7 +567,7 @@ pub gives_honest : {D : Type 0} (sound : D → Type 0) (mail : D → DropMail) �
 gives_honest sound mail old new commands part fresh serves asked line sent s served =
     let ms = there (mail old.machine.drop).slots in
     let gained : serves.gained ≡ flat_map ended (command_lines commands) ++ part = rw fresh.sent at (sym serves.sent ∙ sent) in
-    let cut = cut_at serves.lines commands new.waiting part serves.each asked line (rw fresh.waiting at (sym serves.heard) ∙ gained) in
+    let cut = lines_cut serves.lines commands new.waiting part serves.each asked line (rw fresh.waiting at (sym serves.heard) ∙ gained) in
     let asked_all = rw cut.all at asked in
     let same = serves.same.unanswered.messages s in
     let replied = answers_honestly sound mail old.machine serves.last cut.first (serves.more ++ serves.lost) fresh.state

@@ -96,9 +96,9 @@ none_gone (m ∷ ms) (b ∷ bs) e = inl (ms, refl, none_gone ms bs (omega arith)
 abbrev LeftBehind : List (Option Message) → List Message → List Bool → DropMail → Type 0
 LeftBehind pre ms marks new = (after : List (Option Message)) × (new.slots ≡ pre ++ after) × AreLeftByQuit ms marks (there after)
 
-stayed : (pre : List (Option Message)) (m : Message) (ms : List Message) (b : Bool) (bs : List Bool) (new : DropMail)
+message_stayed : (pre : List (Option Message)) (m : Message) (ms : List Message) (b : Bool) (bs : List Bool) (new : DropMail)
     → LeftBehind (pre ++ Some m ∷ []) ms bs new → LeftBehind pre (m ∷ ms) (b ∷ bs) new
-stayed pre m ms b bs new left = (Some m ∷ left.0, left.1 ∙ append_assoc pre (Some m ∷ []) left.0, inl (there left.0, refl, left.2))
+message_stayed pre m ms b bs new left = (Some m ∷ left.0, left.1 ∙ append_assoc pre (Some m ∷ []) left.0, inl (there left.0, refl, left.2))
 
 emptied : (ms : List Message) (marks : List Bool) (pre : List (Option Message)) {i : ℕ} {old : DropMail} {all : Bool}
     {new : DropMail} → Empties i (rows_with ms marks) old all new
@@ -106,10 +106,10 @@ emptied : (ms : List Message) (marks : List Bool) (pre : List (Option Message)) 
 emptied [] marks pre (none i old) at same slots = ([], slots, refl)
 emptied (m ∷ ms) [] pre empties at same slots = absurd (omega arith)
 emptied (m ∷ ms) (b ∷ bs) pre (stays i row rows old all new unmarked rest) at same slots =
-    stayed pre m ms b bs new (emptied ms bs (pre ++ Some m ∷ []) rest
+    message_stayed pre m ms b bs new (emptied ms bs (pre ++ Some m ∷ []) rest
     (omega (arith, at, length-append pre (Some m ∷ []))) (omega arith) (rw (slots, append_assoc)))
 emptied (m ∷ ms) (b ∷ bs) pre (goes i row rows old mid done all new marked tries rest) at same slots = elim (tried old mid i done tries).1 [
-  | inl kept ↦ stayed pre m ms b bs new
+  | inl kept ↦ message_stayed pre m ms b bs new
       (emptied ms bs (pre ++ Some m ∷ []) rest (omega (arith, at, length-append pre (Some m ∷ []))) (omega arith)
       (rw (kept, slots, append_assoc)))
   | inr gone ↦

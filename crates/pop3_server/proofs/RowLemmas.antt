@@ -17,8 +17,8 @@ set_mark [] i row is fits = absurd (omega arith)
 set_mark (first ∷ rows) zero row is fits = ap (λ (r : MessageRow). with_mark r ∷ rows) is
 set_mark (first ∷ rows) (suc i) row is fits = ap (λ l. first ∷ l) (set_mark rows i row is (omega arith))
 
-pub same_rows : (rows : List MessageRow) → SamePlaces rows rows
-same_rows rows i row h = (row, h)
+pub places_stay : (rows : List MessageRow) → SamePlaces rows rows
+places_stay rows i row h = (row, h)
 
 -- each place that has a row had one before
 pub row_of_mark : (rows : List MessageRow) (i : ℕ) → SamePlaces rows (mark_at rows i)
@@ -46,4 +46,4 @@ rows_with [] marks = []
 rows_with (m ∷ ms) [] = []
 rows_with (m ∷ ms) (b ∷ bs) = row_with m b ∷ rows_with ms bs
 
-pub ruleset mark_laws = (same_rows, row_of_mark, row_of_unmark)
+pub ruleset mark_laws = (places_stay, row_of_mark, row_of_unmark)

@@ -16,9 +16,9 @@ use Rattle.pop3_server.{
 -- ---- octets of a text
 
 -- n more octets after those that were read
-pub read_on : (mail after : DropMail) (i n : ℕ) (read piece : List ℕ) → n ≤ length piece → BeginsTextAt mail i read
+pub text_read_on : (mail after : DropMail) (i n : ℕ) (read piece : List ℕ) → n ≤ length piece → BeginsTextAt mail i read
     → GivesPart mail i (length read) (Ok n) piece after → BeginsTextAt mail i (read ++ take n piece)
-read_on mail after i n read piece fits (message, at, begins) (same, (other, there, part, none)) =
+text_read_on mail after i n read piece fits (message, at, begins) (same, (other, there, part, none)) =
     let is : other ≡ message = cc in
     (message, at, rw (length-append, length-take-le n piece fits, take-add) (ap₂ (λ (a b : List ℕ). a ++ b) begins (rw is at part)))
 
@@ -105,7 +105,7 @@ module _ {D : Type 0} (sound : D → Type 0) (mail : D → DropMail) where
     reads = reads_on false old b c begins.reads reads;
     known = λ s.
         let part = gives s in
-        rw place (read_on (mail old) (mail c) x.place n begins.read piece fits (begins.known part.0)
+        rw place (text_read_on (mail old) (mail c) x.place n begins.read piece fits (begins.known part.0)
         (rw ((begins.reads.known part.0).1, begins.start) at part.1));
   }
 

@@ -4,13 +4,13 @@ use Rattle.pop3_wire.specs.Stuffed.{stuffed_lines}
 use Rattle.pop3_server.{
   specs.{declared.{text_part.TextBody.TextBody, text_top.Top.Top}, ServerMachine.text_body, TextBody.{belonging, ended_body, still}},
   specs.TextPiece.{is_open_after, sent_end, sent_piece, top_begun, top_octets},
-  proofs.{TextPieceLemmas.{open_append, sent_append, sent_whole}, TextTopLemmas.{none_taken, lines_of_top}},
+  proofs.{TextPieceLemmas.{open_append, sent_append, sent_whole}, TextTopLemmas.{top_of_none, lines_of_top}},
 }
 
 -- if no octets come, none belong to it
 pub none_belongs : (top : Option Top) → belonging top [] ≡ []
 none_belongs None = refl
-none_belongs (Some top) = none_taken top.in_head top.in_line top.left
+none_belongs (Some top) = top_of_none top.in_head top.in_line top.left
 
 -- if nothing more belongs to it, only its end is to come
 pub still_none : (body : TextBody) (rest : List ℕ) → belonging body.top rest ≡ [] → still body rest ≡ sent_end body.stuffer.in_line

@@ -30,15 +30,15 @@ lines_at true true n lines = from_open n lines
 lines_at true false n lines = top_from true n lines
 lines_at false in_line n lines = top_from false n lines
 
-first_at : (in_head in_line : Bool) (n byte : ℕ) (lines : List (List ℕ)) → (in_head ≡ false → 0 < n)
+first_octet_at : (in_head in_line : Bool) (n byte : ℕ) (lines : List (List ℕ)) → (in_head ≡ false → 0 < n)
     → onto_first byte (lines_at in_head true n lines) ≡ lines_at in_head in_line n (onto_first byte lines)
-first_at true true n byte [] more = refl
-first_at true true n byte (line ∷ lines) more = refl
-first_at true false n byte [] more = refl
-first_at true false n byte (line ∷ lines) more = ap (λ b. (byte ∷ line) ∷ top_from (not b) n lines) (sym (some_octets (length line)))
-first_at false in_line zero byte lines more = absurd (omega (arith, more refl))
-first_at false in_line (suc n) byte [] more = refl
-first_at false in_line (suc n) byte (line ∷ lines) more = refl
+first_octet_at true true n byte [] more = refl
+first_octet_at true true n byte (line ∷ lines) more = refl
+first_octet_at true false n byte [] more = refl
+first_octet_at true false n byte (line ∷ lines) more = ap (λ b. (byte ∷ line) ∷ top_from (not b) n lines) (sym (some_octets (length line)))
+first_octet_at false in_line zero byte lines more = absurd (omega (arith, more refl))
+first_octet_at false in_line (suc n) byte [] more = refl
+first_octet_at false in_line (suc n) byte (line ∷ lines) more = refl
 
 pub lines_of_top : (in_head in_line : Bool) (n : ℕ) (text : List ℕ)
     → lines_of_text (top_octets in_head in_line n text) ≡ lines_at in_head in_line n (lines_of_text text)
@@ -50,14 +50,14 @@ lines_of_top true true n (byte ∷ text) =
       arith,
       lines_of_top true false n text,
       lines_of_top true true n text,
-      first_at true true n byte (lines_of_text text),
+      first_octet_at true true n byte (lines_of_text text),
     )
 lines_of_top true false n (byte ∷ text) =
     grind (
       arith,
       lines_of_top false false n text,
       lines_of_top true true n text,
-      first_at true false n byte (lines_of_text text),
+      first_octet_at true false n byte (lines_of_text text),
     )
 lines_of_top false in_line zero (byte ∷ text) = sym (top_from-none (lines_of_text (byte ∷ text)))
 lines_of_top false in_line (suc n) (byte ∷ text) =
@@ -65,7 +65,7 @@ lines_of_top false in_line (suc n) (byte ∷ text) =
       arith,
       lines_of_top false false n text,
       lines_of_top false true (suc n) text,
-      first_at false in_line (suc n) byte (lines_of_text text),
+      first_octet_at false in_line (suc n) byte (lines_of_text text),
     )
 
 -- ---- what it takes
@@ -101,10 +101,10 @@ ends_later in_head in_line opened n left line rest none later is some less =
     rw (is, later, one) (takes_rest false in_line (suc left) line (10 ∷ rest) none (λ _. omega arith))
 
 -- it takes none if there are none, and none after all has come
-pub none_taken : (in_head in_line : Bool) (n : ℕ) → top_octets in_head in_line n [] ≡ []
-none_taken true in_line n = refl
-none_taken false in_line zero = refl
-none_taken false in_line (suc n) = refl
+pub top_of_none : (in_head in_line : Bool) (n : ℕ) → top_octets in_head in_line n [] ≡ []
+top_of_none true in_line n = refl
+top_of_none false in_line zero = refl
+top_of_none false in_line (suc n) = refl
 
 later_none : (in_line : Bool) (rest : List ℕ) → top_octets false in_line 0 rest ≡ []
 later_none in_line [] = refl
