@@ -277,8 +277,8 @@ last_now files file before found is = λ some.
       ) is,
     )
 
-pub none_last : (files : List ListedFile) → files ≡ [] → LastIsOf files []
-none_last files none = λ some. absurd (omega (arith, subst (λ (f : List ListedFile). 0 < length f) none some))
+pub no_last_file : (files : List ListedFile) → files ≡ [] → LastIsOf files []
+no_last_file files none = λ some. absurd (omega (arith, subst (λ (f : List ListedFile). 0 < length f) none some))
 
 -- ---- what was found, one by one
 
@@ -359,8 +359,8 @@ found_among IsSo found s before t files is given all = subst (λ (every : List P
     (sym (taken_front s before t given) ∙ is) (found_still IsSo before (into_iter_items t) files all)
 
 -- a limit that isn't reached
-pub room_left : (most n : ℕ) → (most ≤ n → false ≡ true) → n < most
-room_left most n never = elim (cases_lt n most) [
+pub below_limit : (most n : ℕ) → (most ≤ n → false ≡ true) → n < most
+below_limit most n never = elim (cases_lt n most) [
   | inl below ↦ below
   | inr past ↦ absurd (false≢true (never past))
 ]

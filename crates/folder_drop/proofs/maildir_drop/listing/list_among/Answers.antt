@@ -14,7 +14,7 @@ use Rattle.folder_drop.specs.{
   RealMaildir.listed_name,
 }
 use Rattle.folder_drop.proofs.MaildirLemmas.{LastIsOf, all_still, found_among, found_still, in_order_here, last_now, last_still}
-use Rattle.folder_drop.proofs.MaildirLemmas.{listed_long, measured_among, none_last, now_listed, passed_among, room_left, same_as_last}
+use Rattle.folder_drop.proofs.MaildirLemmas.{listed_long, measured_among, no_last_file, now_listed, passed_among, below_limit, same_as_last}
 use Rattle.folder_drop.proofs.maildir_drop.listing.list_among.Goals as goal
 
 pub loop-file-init : goal.loop-file-init
@@ -22,7 +22,7 @@ loop-file-init g c =
     let IsSo = IsMeasured g.D.File.Read.remaining (g.D.MailFiles.found c.args.files.now)
     (g.D.MailFiles.opened c.args.files.now) (g.D.MailFiles.told c.args.files.now) c.args.earlier.now in (
       c.in_ok-listed.ensures.listed,
-      none_last _ c.in_ok-listed.ensures.empty,
+      no_last_file _ c.in_ok-listed.ensures.empty,
       λ file there. subst (λ (files : List ListedFile). Contains files file) c.new-counted.ensures there,
       All-nil _,
       subst (λ (files : List ListedFile). All (ListsFound IsSo []) files) (sym c.in_ok-listed.ensures.empty) (All-nil _),
@@ -120,7 +120,7 @@ loop-file-preserved g c =
         is_key = subst (λ name. IsIdKey c.in_ok-long_id.long_id (id_of name)) (c.as_bytes.ensures.value ∙ named)
             c.in_ok-long_id.ensures;
         unseen = c.if-not-is_unseen.ensures.0 refl;
-      }) (room_left _ _ c.if-is_full.ensures.1) small known.0,
+      }) (below_limit _ _ c.if-is_full.ensures.1) small known.0,
       subst (λ (all : List ListedFile). LastIsOf all (before ++ file ∷ [])) (sym added) (last_now files new before file is_base),
       λ f there. known.2 f (c.measure.ensures.rest f there),
       subst (λ (all : List ListedFile). All (IsAccountedFor Passed all) (before ++ file ∷ [])) (sym added)
