@@ -53,10 +53,10 @@ kept_left (s ∷ entries) = by s.is_named refl (kept_left entries)
     )
     by false unnamed rest = inl (unnamed, rest)
 
-pub names_kept : (entries : List MailFile) → names_of (files_at (keep entries))
+pub named_are_left : (entries : List MailFile) → names_of (files_at (keep entries))
     ≡ names_of (filter (λ (f : File). f.is_named) (files_at entries))
-names_kept [] = refl
-names_kept (s ∷ entries) = by s.is_named (names_kept entries)
+named_are_left [] = refl
+named_are_left (s ∷ entries) = by s.is_named (named_are_left entries)
   where
     by : (named : Bool)
         → names_of (files_at (keep entries)) ≡ names_of (filter (λ (f : File). f.is_named) (files_at entries))
@@ -77,20 +77,20 @@ loses d = record { there = refl; each = kept_left d.entries; taken = refl }
 -- ---- a file
 
 -- a folder with nothing but what is left under the name
-abbrev pub alone : List ℕ → Option (List ℕ) → Directory
-alone name bytes = record { can_make = true; entries = left_under name bytes; older = [] }
+abbrev pub only_name : List ℕ → Option (List ℕ) → Directory
+only_name name bytes = record { can_make = true; entries = left_under name bytes; older = [] }
 
 found_alone : (name bytes : List ℕ) → find name (left_under name (Some bytes)) ≡ Some (secured bytes)
 found_alone name bytes = find_here name (entry name (secured bytes)) [] ((bytes_eq-Decides name name).1 refl)
 
-pub seen_alone : (name : List ℕ) (bytes : Option (List ℕ)) → content_at (alone name bytes) name ≡ bytes
+pub seen_alone : (name : List ℕ) (bytes : Option (List ℕ)) → content_at (only_name name bytes) name ≡ bytes
 seen_alone name None = refl
 seen_alone name (Some bytes) = ap (option_map content_in) (found_alone name bytes)
 
-durable_alone : (name : List ℕ) (bytes : Option (List ℕ)) → IsDurable (disk_at (alone name bytes) name)
+durable_alone : (name : List ℕ) (bytes : Option (List ℕ)) → IsDurable (disk_at (only_name name bytes) name)
 durable_alone name None = record { named = refl; flushed = tt }
 durable_alone name (Some bytes) = record { named = refl; flushed = subst IsFlushed (sym (found_alone name bytes)) refl }
 
-pub left_alone : DurableIsLeft → (name : List ℕ) (bytes other : Option (List ℕ)) → MayLeave (disk_at (alone name bytes) name) other
+pub left_alone : DurableIsLeft → (name : List ℕ) (bytes other : Option (List ℕ)) → MayLeave (disk_at (only_name name bytes) name) other
     → other ≡ bytes
-left_alone law name bytes other may = law (disk_at (alone name bytes) name) other (durable_alone name bytes) may ∙ seen_alone name bytes
+left_alone law name bytes other may = law (disk_at (only_name name bytes) name) other (durable_alone name bytes) may ∙ seen_alone name bytes

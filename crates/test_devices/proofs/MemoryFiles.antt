@@ -33,11 +33,11 @@ not_here name e es none = ⊎_elim (λ same. absurd (none-some e.blob (sym none 
     (λ apart. (apart, sym (find_later name e es apart) ∙ none)) (cases_Bool (bytes_eq name e.name))
 
 -- a name that isn't there leads to no file
-none_of : (name : List ℕ) (es : List DirEntry) → (Contains (names_in es) name → ⊥) → find name es ≡ None
-none_of name [] free = refl
-none_of name (e ∷ es) free = cond_both (bytes_eq name e.name) (Some e.blob) (find name es) (λ (o : Option Blob). o ≡ None)
+leads_nowhere : (name : List ℕ) (es : List DirEntry) → (Contains (names_in es) name → ⊥) → find name es ≡ None
+leads_nowhere name [] free = refl
+leads_nowhere name (e ∷ es) free = cond_both (bytes_eq name e.name) (Some e.blob) (find name es) (λ (o : Option Blob). o ≡ None)
     (λ same. absurd (free (0, omega arith, sym ((bytes_eq-Decides name e.name).0 same))))
-    (λ _. none_of name es (λ c. free (suc c.0, omega (arith, c.1), c.2)))
+    (λ _. leads_nowhere name es (λ c. free (suc c.0, omega (arith, c.1), c.2)))
 
 not_ahead : (name first : List ℕ) (names : List (List ℕ)) → (Contains names name → ⊥) → bytes_eq name first ≡ false
     → (k : ℕ) → k < length (first ∷ names) → get_or (first ∷ names) k name ≡ name → ⊥
@@ -165,8 +165,8 @@ zeroed_left b n left enough (zeros, is, all, le) = subst (λ (xs : List ℕ). Is
         ∙ all (j - length (take n b.content))
 
 -- the first bytes of a file, with all that was flushed and not cut off since
-pub front_left : (b : Blob) (n : ℕ) → b.uncut ≤ n → IsLeft b (take n b.content)
-front_left b n enough = zeroed_left b n (take n b.content) enough
+pub flushed_front_left : (b : Blob) (n : ℕ) → b.uncut ≤ n → IsLeft b (take n b.content)
+flushed_front_left b n enough = zeroed_left b n (take n b.content) enough
     ([], sym (append-nil (take n b.content)), λ k. refl, omega (arith, length-take n b.content))
 
 abbrev pub Before : Type 0
@@ -228,7 +228,7 @@ survives_find older [] left name distinct is = (None, ap (find name) is, inl tt)
 survives_find older (e ∷ es) left name distinct (inl (gone, rest)) = elim (cases_Bool (bytes_eq name e.name)) [
   | inl same ↦
       let titled : e.name ≡ name = sym ((bytes_eq-Decides name e.name).0 same) in
-      let none : find name es ≡ None = none_of name es (rw titled at (distinct_head e.name (names_in es) distinct)) in
+      let none : find name es ≡ None = leads_nowhere name es (rw titled at (distinct_head e.name (names_in es) distinct)) in
       (None, survives_none older es left name rest none, rw (find_here name e es same, ← titled) gone)
   | inr apart ↦
       let later = survives_find older es left name (distinct_tail e.name (names_in es) distinct) rest in
@@ -256,7 +256,7 @@ survives_names older (e ∷ es) left (inl (gone, rest)) distinct =
     survives_names older es left rest (distinct_tail e.name (names_in es) distinct)
 survives_names older (e ∷ es) left (inr (bytes, rest, is, may, more)) distinct =
     let gone : find e.name rest ≡ None =
-    survives_none older es rest e.name more (none_of e.name es (distinct_head e.name (names_in es) distinct)) in
+    survives_none older es rest e.name more (leads_nowhere e.name es (distinct_head e.name (names_in es) distinct)) in
     rw is (distinct_cons e.name (names_in rest) (found e.name rest gone)
     (survives_names older es rest more (distinct_tail e.name (names_in es) distinct)))
 

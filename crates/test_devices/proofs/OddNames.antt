@@ -11,16 +11,16 @@ use Rattle.mail_terms.specs.UniqueId.{has_id}
 use Rattle.folder_store.specs.{MailCalls.{file_names, odd_names}, MailFolders.{Directories, closed_in}}
 
 -- the names in front pass the test, and the others don't
-front_passes : (p : List ℕ → Bool) (xs ys : List (List ℕ)) → ((x : List ℕ) → has_id xs x ≡ true → p x ≡ true)
+filter_leaves_front : (p : List ℕ → Bool) (xs ys : List (List ℕ)) → ((x : List ℕ) → has_id xs x ≡ true → p x ≡ true)
     → ((y : List ℕ) → has_id ys y ≡ true → p y ≡ false) → filter p (xs ++ ys) ≡ xs
-front_passes p [] [] pass fail = refl
-front_passes p [] (y ∷ ys) pass fail = rw (fail y (or_left (bytes_eq y y) (has_id ys y) ((bytes_eq-Decides y y).1 refl)))
-    (front_passes p [] ys pass (λ z is. fail z (or_right (bytes_eq z y) (has_id ys z) is)))
-front_passes p (x ∷ xs) ys pass fail = rw (pass x (or_left (bytes_eq x x) (has_id xs x) ((bytes_eq-Decides x x).1 refl)))
-    (ap (λ (zs : List (List ℕ)). x ∷ zs) (front_passes p xs ys (λ z is. pass z (or_right (bytes_eq z x) (has_id xs z) is)) fail))
+filter_leaves_front p [] [] pass fail = refl
+filter_leaves_front p [] (y ∷ ys) pass fail = rw (fail y (or_left (bytes_eq y y) (has_id ys y) ((bytes_eq-Decides y y).1 refl)))
+    (filter_leaves_front p [] ys pass (λ z is. fail z (or_right (bytes_eq z y) (has_id ys z) is)))
+filter_leaves_front p (x ∷ xs) ys pass fail = rw (pass x (or_left (bytes_eq x x) (has_id xs x) ((bytes_eq-Decides x x).1 refl)))
+    (ap (λ (zs : List (List ℕ)). x ∷ zs) (filter_leaves_front p xs ys (λ z is. pass z (or_right (bytes_eq z x) (has_id xs z) is)) fail))
 
 beside : (files obstacles : List (List ℕ)) → file_names (file_names files obstacles) (files ++ file_names files obstacles) ≡ files
-beside files obstacles = front_passes (λ x. not (has_id (file_names files obstacles) x)) files (file_names files obstacles)
+beside files obstacles = filter_leaves_front (λ x. not (has_id (file_names files obstacles) x)) files (file_names files obstacles)
     (λ x is. ap not (any-filter_same (bytes_eq x) (λ y. not (has_id files y)) false
     (λ y same. subst (λ z. not (has_id files z) ≡ false) ((bytes_eq-Decides x y).0 same) (ap not is)) obstacles))
     (λ x is. ap not is)

@@ -5,7 +5,7 @@ use Rattle.test_devices.proofs.laws.files_are_lost.Goals as goal
 pub returns : goal.returns
 returns c device bytes may = (
   record device {
-    folder = lemmas.alone device.name.now bytes;
+    folder = lemmas.only_name device.name.now bytes;
     is_flushed = false;
     settled = record { flushed = λ never. absurd (let e = never in cc) };
   },

@@ -11,5 +11,5 @@ returns c device = (
       (lemmas.lost device.folders)
       (map string_bytes device.odd.items)
       (lemmas.loses device.folders),
-  lemmas.names_kept device.folders.entries,
+  lemmas.named_are_left device.folders.entries,
 )
