@@ -123,9 +123,9 @@ did g c = link_less (length c.args.listing.now * step_limit)
     (most_planned c.deref-2.result.now c.args.listing.now c.deref-3.result.now).0 c.in_ok-do_steps.ensures.runs.0.talk
 
 -- the store was prepared, and then used
-stood : (g : _) (c : After-do_steps g)
+store_stood : (g : _) (c : After-do_steps g)
     → KeepsStore g.D.MaildirDisk g.F.FlatFile (2 * length c.args.listing.now) c.args.work.now c.do_steps.new.work
-stood g c =
+store_stood g c =
     let kept = store_less (most_planned c.deref-2.result.now c.args.listing.now c.deref-3.result.now).1 c.do_steps.ensures.runs.0.store in
     record {
       lines = subst (λ lines. AddsLines lines (2 * length c.args.listing.now) c.do_steps.new.work.ledger.lines)
@@ -135,13 +135,13 @@ stood g c =
     }
 
 -- the listener was told of the plan, and then of lines
-told : (g : _) (c : After-do_steps g) (work : Work g.row.D.Denot g.row.F.Denot _ _)
+listener_told : (g : _) (c : After-do_steps g) (work : Work g.row.D.Denot g.row.F.Denot _ _)
     → (is_sound g.D.MaildirDisk g.F.FlatFile work.store → g.F.FlatFile.sound work.ledger.file
     → is_sound g.D.MaildirDisk g.F.FlatFile c.prepare.new.work.store × g.F.FlatFile.sound c.prepare.new.work.ledger.file)
     → HearsOne g.L.Listener.hears (IsPlanFor g.D.MaildirDisk g.F.FlatFile c.args.terms c.args.work.now
     (length c.args.listing.now) c.skips_of.result work (λ items. items ≡ c.args.listing.now)) c.args.listener.now
     c.do_steps.new.listener
-told g c work back =
+listener_told g c work back =
     let settings = c.args.terms.settings.now in
     let items = c.args.listing.now in
     let now = c.args.terms.now in
@@ -178,9 +178,10 @@ returns-in_err-do_steps g c =
     rw (err_is c.from_residual-in_err-do_steps.ensures.1) (record {
       link = link_with_tail (link_less (length c.args.listing.now * step_limit)
           (most_planned c.deref-2.result.now c.args.listing.now c.deref-3.result.now).0 done.runs.0.talk);
-      store = stood g here.After-do_steps;
+      store = store_stood g here.After-do_steps;
       carries = carries g here.After-deref-3 (Err c.in_err-do_steps.field-0.0) (runs_before _ _ done.runs);
-      heard = told g here.After-do_steps c.do_steps.new.work (λ d f. ((done.runs.0.store.none_begun d).0, (done.runs.0.durable d f).0));
+      heard = listener_told g here.After-do_steps c.do_steps.new.work
+          (λ d f. ((done.runs.0.store.none_begun d).0, (done.runs.0.durable d f).0));
     })
 
 pub returns : goal.returns
@@ -191,9 +192,9 @@ returns g c =
     let all = goes_on c.turns_join.ensures g.met.W.Wire.leads_on _ _ (Ok tt) first.runs (last.runs _) in
     record {
       link = link_on_tail (omega arith) (did g here.In_ok-do_steps) last.link;
-      store = store_on (omega arith) (stood g here.After-do_steps) c.end.ensures.store;
+      store = store_on (omega arith) (store_stood g here.After-do_steps) c.end.ensures.store;
       carries = carries g here.After-deref-3 (Ok tt) all;
-      heard = told g here.After-do_steps c.end.new.work (λ d f. ((all.0.store.none_begun d).0, (all.0.durable d f).0));
+      heard = listener_told g here.After-do_steps c.end.new.work (λ d f. ((all.0.store.none_begun d).0, (all.0.durable d f).0));
     }
 
 pub returns-in_err-end : goal.returns-in_err-end
@@ -204,9 +205,9 @@ returns-in_err-end g c =
     let all = goes_on c.turns_join.ensures g.met.W.Wire.leads_on _ _ (Err c.in_err-end.field-0.0) first.runs (last.runs _) in
     rw (err_is c.from_residual-in_err-end.ensures.1) (record {
       link = link_on_tail (omega arith) (did g here.In_ok-do_steps) last.link;
-      store = store_on (omega arith) (stood g here.After-do_steps) c.end.ensures.store;
+      store = store_on (omega arith) (store_stood g here.After-do_steps) c.end.ensures.store;
       carries = carries g here.After-deref-3 (Err c.in_err-end.field-0.0) all;
-      heard = told g here.After-do_steps c.end.new.work (λ d f. ((all.0.store.none_begun d).0, (all.0.durable d f).0));
+      heard = listener_told g here.After-do_steps c.end.new.work (λ d f. ((all.0.store.none_begun d).0, (all.0.durable d f).0));
     })
 
 pub returns-in_err-ready-clause-link : goal.returns-in_err-ready-clause-link

@@ -49,8 +49,8 @@ returns-in_err-listing-clause-link g c =
     (Err c.in_err-listing.field-0.0))))))
 
 -- the listing is known
-entered : (g : _) (c : In_ok-listing g) → KeepsLink g.W.Wire (TookTillCut opening_limit) c.args.client.now (Ok tt) c.enter.new.client
-entered g c = record {
+link_entered : (g : _) (c : In_ok-listing g) → KeepsLink g.W.Wire (TookTillCut opening_limit) c.args.client.now (Ok tt) c.enter.new.client
+link_entered g c = record {
   same = c.enter.ensures.link;
   counted = c.in_ok-listing.ensures.counted;
   took =
@@ -59,11 +59,11 @@ entered g c = record {
 
 pub returns-in_err-reserve-clause-link : goal.returns-in_err-reserve-clause-link
 returns-in_err-reserve-clause-link g c = rw (err_is c.from_residual-in_err-reserve.ensures.1) (link_on_tail (omega arith) link_still
-    (link_with_tail (link_then_cut (entered g (goal.at.returns-in_err-reserve-clause-link g c).In_ok-listing))))
+    (link_with_tail (link_then_cut (link_entered g (goal.at.returns-in_err-reserve-clause-link g c).In_ok-listing))))
 
 pub returns-clause-link : goal.returns-clause-link
 returns-clause-link g c = link_on_tail (omega (arith, c.len-counts.ensures.count))
-    (entered g (goal.at.returns-clause-link g c).In_ok-listing) c.carry_out.ensures.link
+    (link_entered g (goal.at.returns-clause-link g c).In_ok-listing) c.carry_out.ensures.link
 
 pub returns-clause-heard : goal.returns-clause-heard
 returns-clause-heard g c = heard_as g.L.Listener.hears _ _ _ _ (λ plan is. record {

@@ -57,9 +57,9 @@ put g c puts =
     let was = inv.2 puts.0 in
     (was.0, (rw was.1 at puts.1) (draft (string_bytes c.args.stem) inv.0) refl)
 
-long : (g : _) (c : After-put_piece g) → c.pieces.length + c.in-Ok.piece.put
+length_so_far : (g : _) (c : After-put_piece g) → c.pieces.length + c.in-Ok.piece.put
     ≡ length (c.pieces.invariant.2.0 ++ take c.in-Ok.piece.put c.next_piece.new.out)
-long g c = longer c.pieces.length c.in-Ok.piece.put c.pieces.invariant.2.0 c.next_piece.new.out c.pieces.invariant.2.1
+length_so_far g c = longer c.pieces.length c.in-Ok.piece.put c.pieces.invariant.2.0 c.next_piece.new.out c.pieces.invariant.2.1
     c.in-Ok.ensures.took.fits
 
 pub settle_file-requires-clause-begun : goal.settle_file-requires-clause-begun
@@ -86,8 +86,8 @@ returns-in-Ok-settle_file-clause-stores g c =
           let now = put g here (c.in_default-put_piece.ensures.puts ends.0) in (
             now.0,
             (
-              settled (g.D.MaildirDisk.maildir c.args.disk.now) _ _ (string_bytes c.args.stem) _ _ now.1 (long g here) ends.1,
-              long g here,
+              settled (g.D.MaildirDisk.maildir c.args.disk.now) _ _ (string_bytes c.args.stem) _ _ now.1 (length_so_far g here) ends.1,
+              length_so_far g here,
             ),
           ),
       and_then g.W.Wire g.met.W.Wire.leads_on inv.3 c.in-Ok.ensures.takes
@@ -106,7 +106,7 @@ returns-in-Err-settle_file-clause-stores g c =
             inr (
               ends.1.0,
               ⊎_elim inl (λ is. inr (c.in-Ok.ensures.took.ended.0 c.if-piece.true, is))
-                  ((rw (now.1, long g here) at ends.1.1) (draft (string_bytes c.args.stem) _) refl),
+                  ((rw (now.1, length_so_far g here) at ends.1.1) (draft (string_bytes c.args.stem) _) refl),
             ),
           ),
       and_then g.W.Wire g.met.W.Wire.leads_on inv.3 c.in-Ok.ensures.takes (λ before took number start now. let more =
@@ -124,7 +124,7 @@ pieces-preserved g c =
       omega (arith, c.pieces.invariant.1, c.in-Ok.ensures.took.fits, longest, less),
       (
         inv.0 ++ take c.in-Ok.piece.put c.next_piece.new.out,
-        long g here,
+        length_so_far g here,
         λ d. put g here (c.in_default-put_piece.ensures.puts d),
         and_then g.W.Wire g.met.W.Wire.leads_on inv.3 c.in-Ok.ensures.takes
             (λ before took number start now. (took number start inv.0 (before number start now)).0),

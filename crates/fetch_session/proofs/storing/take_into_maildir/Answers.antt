@@ -24,10 +24,10 @@ store_text-requires-clause-free g c = λ kept. record {
   named = (c.requires.named kept).0;
 }
 
-grown : (g : _) (c : After-store_text g) → g.D.MaildirDisk.sound c.store_text.new.disk → g.D.MaildirDisk.sound c.args.disk.now
+gains_text : (g : _) (c : After-store_text g) → g.D.MaildirDisk.sound c.store_text.new.disk → g.D.MaildirDisk.sound c.args.disk.now
     × MayGain (stem_of c.args.account.now c.args.uid.now) (g.D.MaildirDisk.maildir c.args.disk.now)
     (g.D.MaildirDisk.maildir c.store_text.new.disk)
-grown g c d =
+gains_text g c d =
     let stored = c.store_text.ensures.stores.1 d in (
       stored.0,
       rw c.in_ok-stem.ensures.stem at (stores_grows _ _ (string_bytes c.in_ok-stem.stem) c.store_text.ensures.stores.0 c.store_text.result
@@ -38,8 +38,8 @@ pub remember-requires-clause-steady : goal.remember-requires-clause-steady
 remember-requires-clause-steady g c = λ f. rw c.requires.ready.written.closed (c.requires.ready.written.steady f)
 
 -- a line is noted for the text
-noted : (g : _) (c : After-note g) → AddsLines c.args.ledger.now.lines 1 c.note.new.lines
-noted g c = (omega (arith, c.note.ensures.len), c.note.ensures.capacity)
+line_noted : (g : _) (c : After-note g) → AddsLines c.args.ledger.now.lines 1 c.note.new.lines
+line_noted g c = (omega (arith, c.note.ensures.len), c.note.ensures.capacity)
 
 pub returns-in_err-stem : goal.returns-in_err-stem
 returns-in_err-stem g c = rw (err_is c.from_residual.ensures.1) (filed c.one_more_is_held.ensures c.requires.ready.written (record {
@@ -82,7 +82,7 @@ returns-in_err-length g c =
             (link c.args.number _ opened));
       };
       ledger = same_ledger c.args.uid.now c.args.ledger.now _ c.requires.ready.written;
-      grows = λ d. let grew = grown g (goal.at.returns-in_err-length g c).After-store_text d in (grew.0, grew.1, tt);
+      grows = λ d. let grew = gains_text g (goal.at.returns-in_err-length g c).After-store_text d in (grew.0, grew.1, tt);
       takes = all_sound (and_then g.W.Wire g.met.W.Wire.leads_on c.in_ok-body.ensures.opens stores.2
           (λ opened link. link c.args.number _ opened)) stores.1 (λ f. (f, tt {0}))
           (λ link stored same. text_stops stores.0 (string_bytes c.in_ok-stem.stem) cut.fault cut.rest
@@ -92,19 +92,19 @@ returns-in_err-length g c =
     }))
 
 -- what marking the id leaves of the record's file
-marked_law : (g : _) (c : After-remember g) (r : Result (Unit {0}) Fault) → FileDid g.F.FlatFile (AppendsRecord
+remember_law : (g : _) (c : After-remember g) (r : Result (Unit {0}) Fault) → FileDid g.F.FlatFile (AppendsRecord
     (record_state_in c.args.ledger.now.seen) (none_open (marked c.args.ledger.now.seen.rows c.args.uid.now)))
     c.args.ledger.now.file r c.remember.new.file → (f : g.F.FlatFile.sound c.remember.new.file)
     → DurablySaves (none_open c.args.ledger.now.seen.rows) (none_open (marked c.args.ledger.now.seen.rows c.args.uid.now))
     (known_file g.F.FlatFile c.args.ledger.now.file) r (known_file g.F.FlatFile c.remember.new.file)
-marked_law g c r did f = durably_saves (none_open c.args.ledger.now.seen.rows)
+remember_law g c r did f = durably_saves (none_open c.args.ledger.now.seen.rows)
     (none_open (marked c.args.ledger.now.seen.rows c.args.uid.now)) (known_file g.F.FlatFile c.args.ledger.now.file) r
     (known_file g.F.FlatFile c.remember.new.file) (rw c.requires.ready.written.closed at (did f).1)
 
 -- the text was read
-stored : (g : _) (c : In_ok-length g)
+text_was_read : (g : _) (c : In_ok-length g)
     → KeepsLink g.W.Wire (TookTillCut (most (retr c.args.number))) c.args.client.now (Ok tt) c.store_text.new.client
-stored g c = record {
+text_was_read g c = record {
   same = c.store_text.ensures.link ∙ c.open.ensures.link;
   counted = c.in_ok-length.ensures.counted ∙ c.in_ok-body.ensures.counted;
   took = did_both g.W.Wire c.in_ok-body.ensures.opens c.in_ok-length.ensures.stores.2
@@ -116,15 +116,15 @@ returns g c =
     let here = goal.at.returns g c in
     let stores = c.in_ok-length.ensures.stores in
     let marks = c.in_ok-remember.ensures in
-    let law = marked_law g here.After-remember (Ok tt) marks.appends in
+    let law = remember_law g here.After-remember (Ok tt) marks.appends in
     let ready = c.requires.ready.written in
     filed c.one_more_is_held.ensures c.requires.ready.written (record {
-      talk = stored g here.In_ok-length;
-      ledger = marked_ledger (Ok tt) c.marked_keeps_rows.ensures refl (noted g here.After-note) (λ f. (marks.appends f).0) (
+      talk = text_was_read g here.In_ok-length;
+      ledger = marked_ledger (Ok tt) c.marked_keeps_rows.ensures refl (line_noted g here.After-note) (λ f. (marks.appends f).0) (
         marks.rows,
         record { closed = marks.closed; steady = λ f. rw marks.rows ((law f).sees.1 (ready.steady (marks.appends f).0)) },
       ) (λ f safe. (law f).leaves (ready.steady (marks.appends f).0) safe);
-      grows = λ d. let grew = grown g here.After-store_text d in (
+      grows = λ d. let grew = gains_text g here.After-store_text d in (
         grew.0,
         grew.1,
         rw (stores.1 d).1.0 (named_more (g.D.MaildirDisk.maildir c.args.disk.now).files _ (c.requires.named grew.0).0 refl),
@@ -142,13 +142,13 @@ returns-in_err-remember g c =
     let here = goal.at.returns-in_err-remember g c in
     let stores = c.in_ok-length.ensures.stores in
     let marks = c.in_err-remember.ensures in
-    let law = marked_law g here.After-remember (Err c.in_err-remember.field-0.0) marks.appends in
+    let law = remember_law g here.After-remember (Err c.in_err-remember.field-0.0) marks.appends in
     let ready = c.requires.ready.written in
     rw (err_is c.from_residual-in_err-remember.ensures.1) (filed c.one_more_is_held.ensures c.requires.ready.written (record {
-      talk = link_then_cut (stored g here.In_ok-length);
-      ledger = marked_ledger (Err _) c.marked_keeps_rows.ensures refl (noted g here.After-note) (λ f. (marks.appends f).0) tt
+      talk = link_then_cut (text_was_read g here.In_ok-length);
+      ledger = marked_ledger (Err _) c.marked_keeps_rows.ensures refl (line_noted g here.After-note) (λ f. (marks.appends f).0) tt
           (λ f safe. (law f).leaves (ready.steady (marks.appends f).0) safe);
-      grows = λ d. let grew = grown g here.After-store_text d in (grew.0, grew.1, tt);
+      grows = λ d. let grew = gains_text g here.After-store_text d in (grew.0, grew.1, tt);
       takes = all_sound (and_then g.W.Wire g.met.W.Wire.leads_on c.in_ok-body.ensures.opens stores.2
           (λ opened link. link c.args.number _ opened)) stores.1 (λ f. ((marks.appends f).0, (law f).sees))
           (λ link stored saved. text_not_saved c.in_ok-length.length stores.0 (string_bytes c.in_ok-stem.stem)
