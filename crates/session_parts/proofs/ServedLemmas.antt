@@ -9,9 +9,9 @@ use Rattle.std.{
   specs.List.{AllByRecursion, AllZip, enumerate_from, flat_map},
 }
 use Rattle.mail_terms.{specs.Listing.{Item, message_limit}, proofs.ListLemmas.{all_front, all_back}}
-use Rattle.mail_store.specs.{FileName.is_held, Mboxrd.entry_of}
+use Rattle.mail_store.specs.{FileName.is_held, FlatFile.Stored, Mboxrd.entry_of}
 use Rattle.rc_file.specs.declared.settings.Settings.{Settings}
-use Rattle.fetch_record.specs.{Record.{RecordState, Row}, RecordGrowth.OneMeaning}
+use Rattle.fetch_record.specs.{Record.{Loaded, RecordState, Row}, RecordGrowth.OneMeaning}
 use Rattle.fetch_rules.specs.{Plan.{fetches, planned, retrieved, step_of}, Wanted.wanted, declared.plans.Step.Step}
 use Rattle.pop3_wire.{
   proofs.BodyLemmas.{first_lines, IsLine-front, no_body, one_line, one_reading, two_statuses},
@@ -34,6 +34,7 @@ use Rattle.session_parts.specs.{
   Cuts.{ArePlanned, CausesFault, CutsHaveCauses, Extends, IsMissing, IsUnusable, TurnBroke},
   CarryingOut.tasks_ahead,
   Readiness.SettlesStore,
+  Record.{FileReadAs, Misread},
   Store.Brings,
   Served.{HasText, Succeeds, IsStored, IsUsable, GoodSessionsStoreAll, StoresAll},
   Scene.{Scene, Stops},
@@ -230,7 +231,7 @@ last_of : (turns : List Turn) (turn : Turn) (replies : List WholeReply) → AllZ
 last_of [] _ (reply ∷ []) good = ([], reply, refl, tt, good.0)
 last_of (_ ∷ turns) turn (reply ∷ replies) good =
     let (front, last, is, goods, one) = last_of turns _ replies good.1 in
-    (reply ∷ front, last, cc, (good.0, goods), one)
+    (reply ∷ front, last, ap (λ (rs : List WholeReply). reply ∷ rs) is, (good.0, goods), one)
 last_of [] _ (_ ∷ other ∷ _) never = absurd never.1
 last_of _ _ _ never = absurd never
 
@@ -262,7 +263,9 @@ by_client _ = (refl, λ _. refl)
 -- ---- nothing fails, so the session ends
 
 usable_is_there : (target : Target) (store : Stores) → IsUsable target store → IsMissing target store → ⊥
-usable_is_there (AsFiles _) store usable missing = grind arith
+usable_is_there (AsFiles _) store (tmp, new, cur) (inl none) = false≢true (sym none ∙ tmp)
+usable_is_there (AsFiles _) store (tmp, new, cur) (inr (inl none)) = false≢true (sym none ∙ new)
+usable_is_there (AsFiles _) store (tmp, new, cur) (inr (inr none)) = false≢true (sym none ∙ cur)
 usable_is_there AsEntries store (bytes, is, may) none = cc
 
 usable_goes_on : (target : Target) (store : Stores) → IsUsable target store → IsUnusable target store → ⊥
@@ -275,9 +278,28 @@ extends_on : (old mid new : Link) → Extends old mid → Extends mid new → Ex
 extends_on old _ _ first later = record {
   said = first.said ++ later.said;
   gained = first.gained ++ later.gained;
-  sent = rw (later.sent, first.sent) (append_assoc old.sent first.said later.said);
-  got = rw (later.got, first.got) (append_assoc old.got first.gained later.gained);
+  sent = later.sent ∙ ap (λ (l : List ℕ). l ++ later.said) first.sent ∙ append_assoc old.sent first.said later.said;
+  got = later.got ∙ ap (λ (l : List ℕ). l ++ later.gained) first.got ∙ append_assoc old.got first.gained later.gained;
 }
+
+-- a session that was cut didn't end, and was cut by one fault
+not_ended : (fault : Fault) → Ended ≡ WasCut fault → ⊥
+not_ended fault is = cc
+
+same_fault : (a b : Fault) → WasCut a ≡ WasCut b → a ≡ b
+same_fault a b is = cc
+
+-- bytes that stand for a record aren't misread
+not_misread : OneMeaning → (old : Stored) (loaded : Loaded) (line : ℕ) (new : Stored) → FileReadAs old.content loaded
+    → Misread old line new → ⊥
+not_misread one old loaded line new reads (_, means, _, _) = cc (one _ _ _ reads.means means)
+
+sent_apart : (sent : List ℕ) (turns : List Turn) (next : Turn) (said : List ℕ)
+    → ((sent ++ asking turns) ++ turn_bytes next) ++ said ≡ sent ++ (asking (turns ++ next ∷ []) ++ said)
+sent_apart sent turns next said = simp (flat_map-append, append_assoc, append-nil)
+
+apart : (a b c d e : List ℕ) → (((a ++ b) ++ c) ++ d) ++ e ≡ a ++ (b ++ (c ++ (d ++ e)))
+apart a b c d e = simp append_assoc
 
 module _ (paced : ConversationsArePaced) (settings : Settings) (target : Target) (now : ℕ) (link : Link) (before : Keeping)
     (report : Report) (link' : Link) (after : Keeping) (done : SessionIn settings target now link before report link' after) where
@@ -290,8 +312,8 @@ module _ (paced : ConversationsArePaced) (settings : Settings) (target : Target)
     where
       rest_of : (cut : Cut) → Proceeds settings target now (at link []) before (Err cut) mid after done.notes
           → (cut.rest ≡ None) ⊎ (is_store cut.fault ≡ true)
-      rest_of cut (inl not) = inl (cc)
-      rest_of cut (inr (inl room)) = inl (cc)
+      rest_of cut (inl not) = inl (ap (λ (c : Cut). c.rest) not.is)
+      rest_of cut (inr (inl room)) = inl (ap (λ (c : Cut). c.rest) room.is)
       rest_of cut (inr (inr dealt)) = elim dealt.carries.1 [
         | inl un ↦ inl un.1.none
         | inr carried ↦ rest_stopped _ _ _ _ _ carried.does.stops
@@ -300,9 +322,9 @@ module _ (paced : ConversationsArePaced) (settings : Settings) (target : Target)
       by : (result : Result (Unit {0}) Cut) → Proceeds settings target now (at link []) before result mid after done.notes
           → LeavesLink result mid link' → report.outcome ≡ outcome_of result
           → Extends mid.link link' × (tail fault ≡ Nothing → link' ≡ mid.link)
-      by (Ok unit) proceeds leaves outcome = cc
+      by (Ok unit) proceeds leaves outcome = absurd (not_ended fault (sym outcome ∙ is))
       by (Err cut) proceeds (new, left, link_is) outcome =
-          let same : cut.fault ≡ fault = cc in
+          let same = same_fault cut.fault fault (sym outcome ∙ is) in
           elim (rest_of cut proceeds) [
             | inl none ↦
                 let said = rw none at left in
@@ -341,7 +363,7 @@ module _ (paced : ConversationsArePaced) (settings : Settings) (target : Target)
         by (inr (inl not)) =
             let sent_is : link'.sent ≡ link.sent ++ (asking (turns ++ next ∷ []) ++ on.said) = on.sent
             ∙ ap (λ (l : List ℕ). l ++ on.said) (not.sent ∙ ap (λ (l : List ℕ). l ++ turn_bytes next) talked.sent)
-            ∙ simp (flat_map-append, append_assoc, append-nil) in
+            ∙ sent_apart link.sent turns next on.said in
             let here : Extends old.link mid.link = record { said = turn_bytes next; gained = not.gained; sent = not.sent; got = not.got } in
             let was = served.answered (turns ++ next ∷ []) later on.said (rw (append_assoc turns (next ∷ []) later)
             (planned_on old.link link' (turns ++ next ∷ later) (extends_on old.link mid.link link' here on) planned)) sent_is in
@@ -349,7 +371,8 @@ module _ (paced : ConversationsArePaced) (settings : Settings) (target : Target)
             let after = not.gained ++ (on.gained ++ was.later) in
             let got_is : link'.got ++ was.later ≡ link.got ++ (talked.gained ++ after) =
             ap (λ (l : List ℕ). l ++ was.later) (on.got
-            ∙ ap (λ (l : List ℕ). l ++ on.gained) (not.got ∙ ap (λ (l : List ℕ). l ++ not.gained) talked.got)) ∙ simp append_assoc in
+            ∙ ap (λ (l : List ℕ). l ++ on.gained) (not.got ∙ ap (λ (l : List ℕ). l ++ not.gained) talked.got))
+            ∙ apart link.got talked.gained not.gained on.gained was.later in
             let all : talked.gained ++ after ≡ flat_map reply_bytes was.replies ++ was.rest =
             append_cancel_left link.got _ _ (sym got_is ∙ was.whole) in
             let last : flat_map reply_bytes (front ++ reply ∷ []) ++ was.rest ≡ flat_map reply_bytes front
@@ -382,7 +405,7 @@ module _ (paced : ConversationsArePaced) (settings : Settings) (target : Target)
         by (StoreRefused Refused) other left cause = omega (arith, cause, served.store_refused)
         by (StoreRefused NotMbox) other left cause = usable_goes_on target after.store served.usable cause
         by SeenRefused other left cause = omega (arith, cause, served.file_refused)
-        by (BadSeen _) other left (_, means, _, _) = cc (one _ _ _ served.read.1.means means)
+        by (BadSeen line) other left cause = not_misread one before.file served.read.0 line after.file served.read.1 cause
         by ListingsDisagree other left cause =
             cause.disagree (served.agree cause.count cause.uids cause.sizes mid (left refl).0 cause.opened)
         by NoMemory other left cause = other refl
@@ -534,4 +557,4 @@ store_all causes paced one fetch_wanted settings target now link before report l
               (all_brought target carried.prepared.was dealt.items before.store carried.mid.store after.store all.dones
               carried.prepared.settles all.went.stored all.went.each))));
         }
-    by_result ended (Err cut) proceeds leaves is = cc
+    by_result ended (Err cut) proceeds leaves is = absurd (not_ended cut.fault (sym ended ∙ is))
