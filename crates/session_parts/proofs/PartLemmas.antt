@@ -455,17 +455,18 @@ pub record Entered {W D F H Z : Type 0} (link : WireGhosts W) (disk : DiskGhosts
       (scene_of link disk file c (over_mbox m l)) cut (scene_of link disk file c' (over_mbox m' l')))))
 
 pub entered : {W D F H Z : Type 0} {link : WireGhosts W} {disk : DiskGhosts D} {file : FileGhosts F} {number : ℕ}
-    {uid : List ℕ} {c : Client W} {m : F} {l : Ledger F H Z} {r : Result (Unit {0}) Cut} {c' : Client W} {m' : F}
-    {l' : Ledger F H Z} → OneMore → IsWritten file l.file l.seen → Entered link disk file number uid c m l r c' m' l' → (account : List ℕ)
-    → RunsTasks link disk file account (stores number uid ∷ []) c (over_mbox m l) r c' (over_mbox m' l')
-entered {number = number} {uid} {r = r} law written is account =
-    runs_taking law number uid r written is.talk is.ledger refl
+    {uid : List ℕ} {c : Client W} {m : F} {l : Ledger F H Z} {given r : Result (Unit {0}) Cut} {c' : Client W} {m' : F}
+    {l' : Ledger F H Z} → given ≡ r → OneMore → IsWritten file l.file l.seen → Entered link disk file number uid c m l r c' m' l'
+    → (account : List ℕ) → RunsTasks link disk file account (stores number uid ∷ []) c (over_mbox m l) given c' (over_mbox m' l')
+entered {link = link} {disk} {file} {number} {uid} {c} {m} {l} {r = r} {c'} {m'} {l'} same law written is account =
+    subst (λ (q : Result (Unit {0}) Cut). RunsTasks link disk file account (stores number uid ∷ []) c (over_mbox m l) q c'
+    (over_mbox m' l')) (sym same) (runs_taking law number uid r written is.talk is.ledger refl
     (λ d. (is.before d, record { none_begun = refl; came = inl refl }, on_any r tt)) is.takes (λ d f. (
       is.keeps d f,
       λ safe.
           let durable = is.durable d f safe.1.0 safe.0 in
           (on_ok_weaker r (λ all. (all.1, all.0)) durable.0, durable.1 safe.1),
-    ))
+    )))
 
 -- ---- what the look left
 

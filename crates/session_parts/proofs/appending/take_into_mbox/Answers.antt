@@ -91,7 +91,7 @@ marked_law g c r did f = durably_saves (record_state_in c.append_text.new.ledger
 -- ---- where it stops
 
 pub returns-in_err-body : goal.returns-in_err-body
-returns-in_err-body g c = rw (err_is c.from_residual.ensures.1) (entered c.one_more_is_held.ensures c.requires.ready (record {
+returns-in_err-body g c = entered (err_is c.from_residual.ensures.1) c.one_more_is_held.ensures c.requires.ready (record {
   talk = link_broke c.conversations_are_paced.ensures (retr c.args.number) c.in_err-body.field-0.0 c.open.ensures.link
       c.in_err-body.ensures.counted c.in_err-body.ensures.opens;
   ledger = same_ledger c.args.uid.now c.args.ledger.now _ c.requires.ready;
@@ -104,10 +104,10 @@ returns-in_err-body g c = rw (err_is c.from_residual.ensures.1) (entered c.one_m
         (place_of g.W.Wire c.args.client.now) c.args.ledger.now.seen.rows c.args.ledger.now.lines.items _ _ safe
         (c.requires.ready.steady f) whole,
   );
-}))
+})
 
 pub returns-in_err-text : goal.returns-in_err-text
-returns-in_err-text g c = rw (err_is c.from_residual-in_err-text.ensures.1) (entered c.one_more_is_held.ensures c.requires.ready (record {
+returns-in_err-text g c = entered (err_is c.from_residual-in_err-text.ensures.1) c.one_more_is_held.ensures c.requires.ready (record {
   talk = record {
     same = c.read_text.ensures.link ∙ c.open.ensures.link;
     counted = before_cut (link_of g.W.Wire c.args.client.now) (link_of g.W.Wire c.open.new.self)
@@ -127,12 +127,12 @@ returns-in_err-text g c = rw (err_is c.from_residual-in_err-text.ensures.1) (ent
         (place_of g.W.Wire c.args.client.now) c.args.ledger.now.seen.rows c.args.ledger.now.lines.items _ _ safe
         (c.requires.ready.steady f) whole,
   );
-}))
+})
 
 pub returns-then-not-is_whole : goal.returns-then-not-is_whole
 returns-then-not-is_whole g c =
     let here = (goal.at.returns-then-not-is_whole g c).In_ok-text in
-    entered c.one_more_is_held.ensures c.requires.ready (record {
+    entered refl c.one_more_is_held.ensures c.requires.ready (record {
       talk = rw c.from.ensures (link_then_cut (took g here));
       ledger = same_ledger c.args.uid.now c.args.ledger.now _ c.requires.ready;
       before = λ m. m;
@@ -155,7 +155,7 @@ returns-in_err-append_text g c =
     let kept = c.append_text.ensures in
     let fault = c.in_err-append_text.field-0.0 in
     let wrote = c.in_err-append_text.ensures.writes in
-    rw (err_is c.from_residual-in_err-append_text.ensures.1) (entered c.one_more_is_held.ensures c.requires.ready (record {
+    entered (err_is c.from_residual-in_err-append_text.ensures.1) c.one_more_is_held.ensures c.requires.ready (record {
       talk = link_then_cut (took g here.In_ok-text);
       ledger = record {
         lines = subst (λ lines. AddsLines lines 1 c.append_text.new.ledger.lines) kept.ledger.lines (omega arith, omega arith);
@@ -181,7 +181,7 @@ returns-in_err-append_text g c =
                   now is seen there),
             )),
       );
-    }))
+    })
 
 pub returns : goal.returns
 returns g c =
@@ -191,7 +191,7 @@ returns g c =
     let ready = c.in_ok-append_text.ensures.ledger in
     let marks = c.in_ok-remember.ensures in
     let marked = marked_law g here.After-remember (Ok tt) marks.appends in
-    entered c.one_more_is_held.ensures c.requires.ready (record {
+    entered refl c.one_more_is_held.ensures c.requires.ready (record {
       talk = took g here.In_ok-text;
       ledger = marked_ledger (Ok tt) c.marked_keeps_rows.ensures kept.ledger.rows (noted g here.After-note)
           (λ f. (kept.ledger.steady (marks.appends f).0).0) (
@@ -220,7 +220,7 @@ returns-in_err-remember g c =
     let fault = c.in_err-remember.field-0.0 in
     let marks = c.in_err-remember.ensures in
     let marked = marked_law g here.After-remember (Err fault) marks.appends in
-    rw (err_is c.from_residual-in_err-remember.ensures.1) (entered c.one_more_is_held.ensures c.requires.ready (record {
+    entered (err_is c.from_residual-in_err-remember.ensures.1) c.one_more_is_held.ensures c.requires.ready (record {
       talk = link_then_cut (took g here.In_ok-text);
       ledger = marked_ledger (Err _) c.marked_keeps_rows.ensures kept.ledger.rows (noted g here.After-note)
           (λ f. (kept.ledger.steady (marks.appends f).0).0) tt
@@ -253,4 +253,4 @@ returns-in_err-remember g c =
                   )))),
             )),
       );
-    }))
+    })
