@@ -36,13 +36,13 @@ use Rattle.fetch_runs.{
   specs.Calls.{BeginsWithEntries, KeepsEntries, ShowsMbox},
   specs.Headline.{World, IsSound, HoldsAPrefix, EmptyFrontsBegin, NoneTaken, TakenStaysAway, selected_of, MboxFrontsBegin, IsInOrder},
   specs.Headline.{EntriesMeanTexts, world_without, Headline, MboxHeadline, HoldsAMboxPrefix, IsUnbegun},
-  proofs.{LeftRecords.{LeavesDurably, leaves_durably}, MboxLeft.{Holds, may_seen, session_left}, Recorded.keeps_recorded},
+  proofs.{LeftRecords.{LeavesDurably, leaves_durably}, MboxLeft.{Holds, may_leave_seen, session_left}, Recorded.keeps_recorded},
   proofs.Safety.texts_stand,
   proofs.Losses.{RecordIsDurable, all_left_durable, calls_keep_order, calls_keep_safe, durable_is_safe, left_keeps_front, left_keeps_safe},
   proofs.Losses.{losses_keep_order, losses_leave_kept, others_keep_order, others_keep_safe, front_stays, left_front},
   proofs.Lists.{left_or_none, all_filter, all_ids_at, all_map, all_front, are_distinct, distinct_filter, distinct_is, front_is, is_some},
   proofs.Lists.{Distinct, no_texts, all_at, bytes_self, other_id, ids_both, all_mapped, none_or_one, same_held},
-  proofs.{MboxPromised.{appends, starts, ends_whole, open_row}, Steps.{mbox_sessions_lose_nothing, sessions_lose_nothing}},
+  proofs.{MboxPromised.{appends, mbox_begins, ends_whole, open_row}, Steps.{mbox_sessions_lose_nothing, sessions_lose_nothing}},
   proofs.Promised.{IsSession, others_leave_kept, sessions_keep_promises, copies_came, copies_messages, held_copies, named_messages},
   proofs.Promised.one_text,
   proofs.Core.{AreLegal, next_here, prefix_left, done_legal, done_distinct},
@@ -125,7 +125,7 @@ record_durable : {F : Type 0} (file : FileGhosts F) (f : F) (mail : Mail)
     (state : State) (intent : Option Intent) → FileStandsFor (stored_in file f).content state.account.rows intent
     → IsCrashSafe (file.disk f) mail state → RecordIsDurable mail state
 record_durable file f _ state intent stands safe id d =
-    (safe.left (stored_in file f).content state.account.rows intent (may_seen file f) stands id d).1
+    (safe.left (stored_in file f).content state.account.rows intent (may_leave_seen file f) stands id d).1
 
 pub calls_keep_promises : Below → {W D F : Type 0} (link : WireGhosts W) (disk : DiskGhosts D) (file : FileGhosts F)
     → CallsKeepPromises link disk file
@@ -317,7 +317,7 @@ mbox_losses_keep : {F : Type 0} (file : FileGhosts F)
     → IsMboxSafe (HoldsEntries base) file devices → IsFileLeft file devices.store left.store → KeepsEntries base done now.file
 mbox_losses_keep file base done account devices left now shows holds then safe mbox =
     let (kept, is) = safe account.rows account.intent (stored_in file devices.file).content (stored_in file left.store).content
-    (may_seen file devices.file) shows.record_is mbox.is in
+    (may_leave_seen file devices.file) shows.record_is mbox.is in
     let (part, whole) = stands_as base (base.start ++ entries_of kept) _ is.stands in
     record {
       kept = kept;
@@ -414,7 +414,7 @@ mbox_losses_keep_order : {F : Type 0} (file : FileGhosts F)
     → BeginsWithEntries world.start done now.file
 mbox_losses_keep_order file world done account devices left now sound shows is then safe mbox =
     let (kept, there) = safe account.rows account.intent (stored_in file devices.file).content (stored_in file left.store).content
-    (may_seen file devices.file) shows.record_is mbox.is in
+    (may_leave_seen file devices.file) shows.record_is mbox.is in
     let distinct : Distinct (message_ids (selected_of world)) = distinct_filter _ _ (distinct_is _ sound.distinct) in
     let same_first : is.front.first ≡ there.front.first = same_front is.front.first there.front.first (done ++ is.front.rest)
     (kept ++ there.front.rest) (sym (first_is is) ∙ first_is there)
@@ -508,8 +508,8 @@ order_shows_next Comes limit all done rest _ _ are prefix order =
 
 -- ---- what is taken away
 
-pub none_taken : NoneTaken
-none_taken _ _ after none stays id = grind (arith, none id, stays id)
+pub nothing_taken : NoneTaken
+nothing_taken _ _ after none stays id = grind (arith, none id, stays id)
 
 pub taken_stays_away : Below → {W D F : Type 0} (link : WireGhosts W) (disk : DiskGhosts D) (file : FileGhosts F)
     → TakenStaysAway link disk file
@@ -556,7 +556,7 @@ withdrawn_leave_prefixes world done account ids sound is unbegun = (
 
 pub mbox_fronts_begin : MboxFrontsBegin
 mbox_fronts_begin world account first rest closed prefix recorded = record {
-  holds = starts world.start account closed;
+  holds = mbox_begins world.start account closed;
   front = record {
     first = first;
     rest = rest;

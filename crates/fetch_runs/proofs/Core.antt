@@ -138,8 +138,8 @@ stored_files account maildir (q ∷ qs) = grind (arith, stored_files account mai
 abbrev pub BeginsWith : List Message → List Message → Type 0
 BeginsWith front all = (more : List Message) × (all ≡ front ++ more)
 
-begins : {X : Type 0} (n k : ℕ) (xs : List X) → take n (take k xs) ++ (drop n (take k xs) ++ drop k xs) ≡ xs
-begins n k xs = rw (← append_assoc, take-append-drop) (take-append-drop k xs)
+taken_then_dropped : {X : Type 0} (n k : ℕ) (xs : List X) → take n (take k xs) ++ (drop n (take k xs) ++ drop k xs) ≡ xs
+taken_then_dropped n k xs = rw (← append_assoc, take-append-drop) (take-append-drop k xs)
 
 -- the ids of the second part are distinct, and none is among those of the first
 pub parts_apart : (front rest : List Message) → Distinct (message_ids (front ++ rest))
@@ -353,7 +353,7 @@ module _ {settings : Settings} {is_odd : List ℕ → Bool} {rows : List Row} {d
     pub added_begins : (n : ℕ) → BeginsWith (added n) rest
     added_begins n = (
       filter undone (behind n) ++ next.0,
-      next.1 ∙ ap (λ l. l ++ next.0) (undone_offered _ known ∙ ap (filter undone) (sym (begins n _ some'))
+      next.1 ∙ ap (λ l. l ++ next.0) (undone_offered _ known ∙ ap (filter undone) (sym (taken_then_dropped n _ some'))
           ∙ filter-append undone (take n (wants settings is_odd rows drop')) (behind n))
           ∙ append_assoc (added n) (filter undone (behind n)) next.0,
     )

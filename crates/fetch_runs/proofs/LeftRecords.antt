@@ -46,27 +46,27 @@ use Rattle.rc_file.specs.declared.settings.Settings.{Settings}
 use Rattle.fetch_runs.{
   specs.{Accounts.{has_named, AccountMail}, Losses.TrustsRecord, Steps.holds, Below.Below},
   proofs.{State.{CourseLeads, by_course}, Turns.{SessionCourse, Idle, Deals, course_of}},
-  proofs.Lists.{bytes_same, all_append, both_none, same_held, same_rows},
+  proofs.Lists.{bytes_same, all_append, both_none, same_held, same_kept_rows},
 }
 use mathlib.Core.Logic.{⊎_map}
 
-abbrev AreLegal : List Row → Type 0
-AreLegal rows = AllByRecursion (λ (row : Row). is_legal_id row.uid ≡ true) rows
+abbrev AreLegalRows : List Row → Type 0
+AreLegalRows rows = AllByRecursion (λ (row : Row). is_legal_id row.uid ≡ true) rows
 
-marked_legal : (rows : List Row) (uid : List ℕ) → AreLegal rows → AreLegal (marked rows uid)
+marked_legal : (rows : List Row) (uid : List ℕ) → AreLegalRows rows → AreLegalRows (marked rows uid)
 marked_legal [] _ _ = tt
 marked_legal (r ∷ rows) _ all = (all.0, marked_legal rows _ all.1)
 
-taken_legal : (rows : List Row) (row : Row) → AreLegal rows → is_legal_id row.uid ≡ true → AreLegal (with_taken rows row)
-taken_legal rows row all one = cond_both _ (marked _ row.uid) (rows ++ row ∷ []) AreLegal
+taken_legal : (rows : List Row) (row : Row) → AreLegalRows rows → is_legal_id row.uid ≡ true → AreLegalRows (with_taken rows row)
+taken_legal rows row all one = cond_both _ (marked _ row.uid) (rows ++ row ∷ []) AreLegalRows
     (λ _. marked_legal _ _ all) (λ _. all_append _ _ _ all (one, tt))
 
 abbrev Legal : Judged → Type 0
-Legal (Stands (InGroup before _ rows _)) = AreLegal before × AreLegal rows
-Legal (Stands progress) = AreLegal (counted progress)
+Legal (Stands (InGroup before _ rows _)) = AreLegalRows before × AreLegalRows rows
+Legal (Stands progress) = AreLegalRows (counted progress)
 Legal (Fails _) = Unit {0}
 
-intent_legal : (version : Version) (n : ℕ) (rows : List Row) (before : Option Intent) (intent : Intent) → AreLegal rows
+intent_legal : (version : Version) (n : ℕ) (rows : List Row) (before : Option Intent) (intent : Intent) → AreLegalRows rows
     → Legal (after_intent version n rows before intent)
 intent_legal Two n rows None intent all = cond_both (has_row rows intent.uid) _ _ Legal (λ _. all) (λ _. tt)
 intent_legal _ n _ _ _ _ = tt
@@ -89,18 +89,18 @@ lines_legal _ n (Fails _) (_ ∷ _) _ _ = tt
 lines_legal version n (Stands progress) (line ∷ lines) legal each =
     lines_legal version (n + 1) (after_line version n progress line) lines (line_legal version n progress line legal each.0) each.1
 
-counted_legal : (progress : Progress) → Legal (Stands progress) → AreLegal (counted progress)
+counted_legal : (progress : Progress) → Legal (Stands progress) → AreLegalRows (counted progress)
 counted_legal (InGroup _ _ _ _) all = all.0
 counted_legal _ all = all
 
 ends_legal : (version : Version) (rows : List Row) (intent : Option Intent) (torn : Bool) (of : Version) (n : ℕ)
-    (end : Judged) (rest : List ℕ) → Legal end → Ends of n end rest (Rows version rows intent torn) → AreLegal rows
+    (end : Judged) (rest : List ℕ) → Legal end → Ends of n end rest (Rows version rows intent torn) → AreLegalRows rows
 ends_legal _ _ _ _ of n (Fails _) _ legal never = absurd cc
 ends_legal version rows intent torn of n (Stands progress) rest legal (none, is) =
     let same : rows ≡ counted progress = grind (arith, is) in rw same (counted_legal progress legal)
 
 means_legal : (bytes : List ℕ) (version : Version) (rows : List Row) (intent : Option Intent) (torn : Bool)
-    → Means bytes (Rows version rows intent torn) → AreLegal rows
+    → Means bytes (Rows version rows intent torn) → AreLegalRows rows
 means_legal _ _ rows _ _ (inl (none, is)) = let same : rows ≡ [] = cc in rw same tt
 means_legal _ _ rows intent torn (inr (inl (some, other, never))) = absurd cc
 means_legal _ version rows intent torn (inr (inr by_lines)) =
@@ -108,7 +108,7 @@ means_legal _ version rows intent torn (inr (inr by_lines)) =
     (lines_legal by_lines.version 0 (Stands (InBase [])) by_lines.lines tt
     (recursion_from_All IsRecordLine by_lines.lines by_lines.cut.each)) by_lines.ends
 
-delivered_legal : (rows : List Row) (id : List ℕ) → AreLegal rows → is_delivered rows id ≡ true → is_legal_id id ≡ true
+delivered_legal : (rows : List Row) (id : List ℕ) → AreLegalRows rows → is_delivered rows id ≡ true → is_legal_id id ≡ true
 delivered_legal [] id all never = absurd cc
 delivered_legal (row ∷ rows) id all delivered = grind (arith, delivered, all.0, bytes_same id row.uid, delivered_legal rows id all.1)
 
@@ -132,14 +132,14 @@ pub record LeavesDurably {F : Type 0} (file : FileGhosts F) (account : List ℕ)
 
 -- ---- what is left of an append
 
-part_of : (place : ℕ) (added left : List ℕ) → MayBeLeft place added left → IsPartOf added left
-part_of _ _ [] is = tt
-part_of _ [] (_ ∷ left) never = absurd never
-part_of place (word ∷ words) (byte ∷ left) (is, more) =
+left_is_part : (place : ℕ) (added left : List ℕ) → MayBeLeft place added left → IsPartOf added left
+left_is_part _ _ [] is = tt
+left_is_part _ [] (_ ∷ left) never = absurd never
+left_is_part place (word ∷ words) (byte ∷ left) (is, more) =
     let some : block_size - place % block_size ≡ suc (511 - place % block_size) = omega arith in
     let zero_byte : is_lost place (byte ∷ left) ≡ true → byte ≡ 0 = λ lost. grind
     (arith, nat_tests, subst (λ k. list_all (λ b. b == 0) (take k (byte ∷ left)) ≡ true) some lost) in
-    (⊎_map (λ same. same) zero_byte is, part_of (place + 1) words left more)
+    (⊎_map (λ same. same) zero_byte is, left_is_part (place + 1) words left more)
 
 -- ---- the rows that are left
 
@@ -159,7 +159,7 @@ grown_reads laws {was} {now} then is stands = elim is.file.begun [
           ))
       | inr apart ↦
           let ignored = laws.torn is.file.bytes is.added is.file.behind was.rows now.rows was.intent now.intent some is.file.stands grows
-          (part_of (length is.file.bytes) is.added is.file.behind is.file.part)
+          (left_is_part (length is.file.bytes) is.added is.file.behind is.file.part)
           (λ same. both_ways _ apart ((bytes_eq-Decides is.file.behind is.added).1 same)) in
           elim (cases_Bool (ends_at_zero is.file.behind)) [
             | inl zeros ↦ inl (same_held laws.one (Some (is.file.bytes ++ is.file.behind)) then was there (Two, _, ignored.0 zeros))
@@ -199,8 +199,8 @@ left_stands laws now is (intent, stands) =
 
 -- ---- names of files
 
-pub no_more : {A : Type 0} (xs ys : List A) (x : A) → ys ≡ xs → ys ≡ xs ++ x ∷ [] → ⊥
-no_more xs ys x same more = absurd (omega (arith, ap length same, ap length more, length-append xs (x ∷ [])))
+pub not_one_longer : {A : Type 0} (xs ys : List A) (x : A) → ys ≡ xs → ys ≡ xs ++ x ∷ [] → ⊥
+not_one_longer xs ys x same more = absurd (omega (arith, ap length same, ap length more, length-append xs (x ∷ [])))
 
 -- what is flagged is held
 pub flag_held : (account : List ℕ) (maildir : Maildir) (items : List Item) (id : List ℕ)
@@ -394,7 +394,7 @@ module _ (laws : Below) {D F : Type 0} (files : FileGhosts F) (device device' : 
 
   by_was : (could : Option (List ℕ)) (id : List ℕ) (had : List Row) → KeepsRows old.content had
       → is_delivered had id ≡ true → Said could id
-  by_was _ _ had keeps_had d = inl (rw (same_rows laws.one old.content had was keeps_had stood) at d)
+  by_was _ _ had keeps_had d = inl (rw (same_kept_rows laws.one old.content had was keeps_had stood) at d)
 
   untouched : IsRecordUntouched files from f → Answered
   untouched un could then may k _ d = inr (inr (un.no_more could may))
@@ -418,7 +418,7 @@ module _ (laws : Below) {D F : Type 0} (files : FileGhosts F) (device device' : 
     anew now_rows _ same is_anew safe could then may k id d =
         let whole = ap (λ s. s.content) (same ∙ is_anew.2) in
         let is = (safe.1 (file_of now_rows None) whole).1 could may ∙ sym whole in
-        by_rows _ id (rw (same_rows laws.one new.content then rows (rw is at k) keeps) at d)
+        by_rows _ id (rw (same_kept_rows laws.one new.content then rows (rw is at k) keeps) at d)
 
     -- ---- it was cut while it prepared the record
 
@@ -470,7 +470,7 @@ module _ (laws : Below) {D F : Type 0} (files : FileGhosts F) (device device' : 
         within : (id : List ℕ) → is_delivered (marked_all c.mid.rows (marked_ids c.does.dones)) id ≡ true → is_delivered rows id ≡ true
         within _ d =
             rw (
-              same_rows laws.one new.content rows w.rows keeps
+              same_kept_rows laws.one new.content rows w.rows keeps
                   (None, laws.steady new.content (none_open w.rows) (c.does.went.saved c.prepared.saved)),
               c.does.went.rows,
             ) d
@@ -492,7 +492,7 @@ module _ (laws : Below) {D F : Type 0} (files : FileGhosts F) (device device' : 
       same_has : new ≡ c.does.mid.file → Has rows_then
       same_has same _ d =
           rw (
-            same_rows laws.one c.does.mid.file.content rows c.does.mid.rows
+            same_kept_rows laws.one c.does.mid.file.content rows c.does.mid.rows
                 (subst (λ (o : Option (List ℕ)). KeepsRows o rows) (ap (λ (s : Stored). s.content) same) keeps) (
                   None,
                   laws.steady c.does.mid.file.content (none_open c.does.mid.rows) (c.does.went.saved c.prepared.saved),
@@ -527,7 +527,7 @@ module _ (laws : Below) {D F : Type 0} (files : FileGhosts F) (device device' : 
       -- nothing came
       nothing : maildir.files ≡ c.does.mid.store.maildir.files → new ≡ c.does.mid.file → Answered
       nothing same same_record = ⊎_elim (λ un. unmarked un same_record)
-          (λ (g, came, is). absurd (no_more _ maildir.files g same came)) durably.1
+          (λ (g, came, is). absurd (not_one_longer _ maildir.files g same came)) durably.1
 
       refused : (n : NoFile account c.does.next c.does.mid end cut)
           → RefusesText c.does.mid.store.maildir (stem_of account n.uid) n.rest n.text cut.fault maildir → Answered
@@ -546,9 +546,9 @@ module _ (laws : Below) {D F : Type 0} (files : FileGhosts F) (device device' : 
           within : Has rows_then
           within id d = elim (laws.unsaved c.does.mid.file (none_open c.does.mid.rows)
               (none_open (marked c.does.mid.rows u.uid)) cut.fault new u.saves (c.does.went.saved c.prepared.saved)) [
-                | inl same ↦ rw (same_rows laws.one new.content rows c.does.mid.rows keeps (None, same), c.does.went.rows) d
+                | inl same ↦ rw (same_kept_rows laws.one new.content rows c.does.mid.rows keeps (None, same), c.does.went.rows) d
                 | inr more ↦ rw (
-                  same_rows laws.one new.content rows (marked c.does.mid.rows u.uid) keeps (None, more),
+                  same_kept_rows laws.one new.content rows (marked c.does.mid.rows u.uid) keeps (None, more),
                   c.does.went.rows,
                   laws.marks rows_then u.uid id,
                   d,

@@ -68,8 +68,8 @@ scan_agrees law row (n, m) scan (field, more, (word, are, value), size) e =
       sym size' ∙ ap (λ l. digits_value 10 (take_while is_ascii_digit l)) second ∙ size,
     )
 
-nobody : Message
-nobody = record { uid = []; size = 0; text = [] }
+empty_message : Message
+empty_message = record { uid = []; size = 0; text = [] }
 
 -- the replies to UIDL and to LIST: how a row is read, its number and value, and what of a message and of an item the value is
 module _ {R V : Type 0} (read : List ℕ → Result (ℕ × V) WireFault) (number : R → ℕ) (value : R → V) (of : Message
@@ -97,18 +97,19 @@ module _ {R V : Type 0} (read : List ℕ → Result (ℕ × V) WireFault) (numbe
   value_at : OneLine → OneListOfLines → (drop : List Message) (marks : List Bool) (reply : WholeReply) (rows : List R)
       → marks ≡ no_marks drop → IsLine reply.first → (listing : HasListing IsRead reply rows) → AllByRecursion IsContent listing.0
       → ListsAll IsRow drop marks (reply_bytes reply) → All (λ row. Has (number row) (value row)) rows → (k : ℕ) → k < length drop
-      → what (get_or items k (item_of nobody)) ≡ of (get_or drop k nobody)
+      → what (get_or items k (item_of empty_message)) ≡ of (get_or drop k empty_message)
   value_at one lists drop _ reply rows none line (lines, is, are) content l all k inside =
       let same : l.lines ≡ lines =
       (lists _ _ [] [] l.content content (ap (λ b. b ++ []) (body_is one _ _ _ line l.says l.whole ∙ ap body_bytes is))).0 in
       let (numbered, permuted, said) = l.rows none in
       let each = All-from_recursion _ numbered (each_has _ lines rows (rw same at said) are (recursion_from_All _ rows all)) in
-      let q : ℕ × Message = (1 + k, get_or drop k nobody) in
-      let placed = get_or-enumerate_from 1 drop k q inside ∙ ap (λ (m : Message). (1 + k, m)) (get_or_default drop k q.1 nobody inside) in
+      let q : ℕ × Message = (1 + k, get_or drop k empty_message) in
+      let placed = get_or-enumerate_from 1 drop k q inside
+      ∙ ap (λ (m : Message). (1 + k, m)) (get_or_default drop k q.1 empty_message inside) in
       let there : Contains (enumerate_from 1 drop) q = (k, omega (arith, inside, length-enumerate_from 1 drop), placed) in
       let c = Contains-permutation (enumerate_from 1 drop) numbered q permuted there in
       let place : 1 + k - 1 ≡ k = omega arith in
-      rw (c.2, place) at (each c.0 q c.1 (item_of nobody))
+      rw (c.2, place) at (each c.0 q c.1 (item_of empty_message))
 
 -- ---- the three replies
 
@@ -151,16 +152,16 @@ listing_is_maildrop laws drop name word commands user pass stat uidl list replie
     are.2.2.1 marks listed.counts in
     let g = are.2.2.2.1 in
     let h = are.2.2.2.2.1 in
-    ext_get_or (item_of nobody) items (listing_of drop) (total ∙ sym (length-map drop item_of)) (λ k l.
+    ext_get_or (item_of empty_message) items (listing_of drop) (total ∙ sym (length-map drop item_of)) (λ k l.
     let inside : k < length drop = omega (arith, l, total) in
-    same_item (get_or items k (item_of nobody)) (get_or drop k nobody)
+    same_item (get_or items k (item_of empty_message)) (get_or drop k empty_message)
     (value_at number_and_id (λ row. row.number) (λ row. row.uid) (λ m. m.uid) (λ i. i.uid) IsUidRow
     (uid_agrees laws.uids) items laws.line laws.lines drop are.2.2.0 uidl listed.uids stays good.1.1.1.0.line
     listed.named (rw listed.named.1 at good.1.1.1.0.body) g.0 listed.joined.ids k inside)
     (value_at number_and_size (λ row. row.number) (λ row. row.size) (λ m. m.size) (λ i. i.size) IsScanRow
     (scan_agrees laws.scans) items laws.line laws.lines drop are.2.2.2.0 list listed.sizes (g.1 ∙ stays) good.1.1.1.1.0.line
     listed.sized (rw listed.sized.1 at good.1.1.1.1.0.body) h.0 listed.joined.octets k inside)
-    ∙ sym (get_or-map item_of drop k nobody (item_of nobody) inside))
+    ∙ sym (get_or-map item_of drop k empty_message (item_of empty_message) inside))
 
 -- ---- what was got splits into replies in one way only
 

@@ -100,12 +100,12 @@ pub bytes_self : (a : List ℕ) → bytes_eq a a ≡ true
 bytes_self a = (bytes_eq-Decides a a).1 refl
 
 -- two tests are the same if what they tell is
-pub same_tests : {a b c d : List ℕ} → (a ≡ b → c ≡ d) → (c ≡ d → a ≡ b) → bytes_eq a b ≡ bytes_eq c d
-same_tests {a} {b} {c} {d} there back =
+pub bytes_eq_alike : {a b c d : List ℕ} → (a ≡ b → c ≡ d) → (c ≡ d → a ≡ b) → bytes_eq a b ≡ bytes_eq c d
+bytes_eq_alike {a} {b} {c} {d} there back =
     same_from_decides (bytes_eq a b) (bytes_eq c d) (bytes_eq-Decides a b) (Decides-like _ back there (bytes_eq-Decides c d))
 
 pub bytes_swap : (a b : List ℕ) → bytes_eq a b ≡ bytes_eq b a
-bytes_swap a b = same_tests {b = b} sym sym
+bytes_swap a b = bytes_eq_alike {b = b} sym sym
 
 -- ---- whether an id is among these
 
@@ -262,8 +262,8 @@ delivered_all laws rows (uid ∷ uids) id h =
 pub same_held : OneRecord → (content : Option (List ℕ)) (a b : RecordState) → Keeps content a → Keeps content b → a ≡ b
 same_held one content a b x y = let same = one _ _ b.rows a.intent b.intent x y in rw (same.0, same.1)
 
-pub same_rows : OneRecord → (content : Option (List ℕ)) (a b : List Row) → KeepsRows content a → KeepsRows content b → a ≡ b
-same_rows one _ a b x y = (one _ a b x.0 y.0 x.1 y.1).0
+pub same_kept_rows : OneRecord → (content : Option (List ℕ)) (a b : List Row) → KeepsRows content a → KeepsRows content b → a ≡ b
+same_kept_rows one _ a b x y = (one _ a b x.0 y.0 x.1 y.1).0
 
 -- ---- files of an id
 

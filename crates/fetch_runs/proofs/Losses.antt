@@ -25,7 +25,7 @@ use Rattle.fetch_runs.{
   specs.Losses.{KeepsDurable, is_durable},
   proofs.{Promised.IsSession, Safety.served_session, State.came_too, LeftRecords.{LeavesDurably, all_named, kept_legal}},
   proofs.Lists.{fewer_copies, held_some, part_copies, reached_copies, some_held, all_append, all_both, all_filter, all_front, all_ids_at},
-  proofs.Lists.{all_map, bytes_same, same_rows, all_at, ids_both, members, all_back, none_or_one},
+  proofs.Lists.{all_map, bytes_same, same_kept_rows, all_at, ids_both, members, all_back, none_or_one},
 }
 
 -- ---- files whose names are durable
@@ -53,10 +53,10 @@ any_before p (f ∷ fs) _ (inr (g, rest, is, like, more)) any =
     ⊎_elim (λ here. or_left _ _ (ap p (sym like.name) ∙ here)) (λ later. or_right _ _ (any_before p fs _ more later))
     (or_cases _ _ (rw is at any))
 
-left_durable : (fs left : List File) → AreLeftAs fs left → AllByRecursion IsDurableFile left
-left_durable [] _ is = rw is tt
-left_durable (f ∷ fs) _ (inl (_, rest)) = left_durable fs _ rest
-left_durable (f ∷ fs) _ (inr (g, rest, is, like, more)) = rw is (like.durable, left_durable fs _ more)
+each_left_durable : (fs left : List File) → AreLeftAs fs left → AllByRecursion IsDurableFile left
+each_left_durable [] _ is = rw is tt
+each_left_durable (f ∷ fs) _ (inl (_, rest)) = each_left_durable fs _ rest
+each_left_durable (f ∷ fs) _ (inr (g, rest, is, like, more)) = rw is (like.durable, each_left_durable fs _ more)
 
 -- of an id's files, if their bytes are durable, it leaves all that they held, or less
 left_copies : (front : List ℕ) (fs left : List File) → AreLeftAs fs left
@@ -117,18 +117,18 @@ named_stays front (f ∷ gone) fs left (a, b, are, is) once named held =
       list_any-append (λ (g : File). bytes_eq front (stem g.name) && g.is_named) a b,
     )
 
-flushed_reached : (account : List ℕ) (fs left : List File) → AreReached fs left
+flushed_for_reached : (account : List ℕ) (fs left : List File) → AreReached fs left
     → AllByRecursion (IsFlushedFor account) fs → AllByRecursion (IsFlushedFor account) left
-flushed_reached _ [] [] _ _ = tt
-flushed_reached account (f ∷ fs) (g ∷ left) (same, are) all =
-    (λ id legal names. same.flushed (all.0 id legal (rw same.name at names)), flushed_reached _ fs left are all.1)
-flushed_reached _ _ _ never _ = absurd never
+flushed_for_reached _ [] [] _ _ = tt
+flushed_for_reached account (f ∷ fs) (g ∷ left) (same, are) all =
+    (λ id legal names. same.flushed (all.0 id legal (rw same.name at names)), flushed_for_reached _ fs left are all.1)
+flushed_for_reached _ _ _ never _ = absurd never
 
 flushed_stays : (account : List ℕ) (gone fs left : List File) → IsWithout fs gone left
     → AllByRecursion (IsFlushedFor account) fs → AllByRecursion (IsFlushedFor account) left
-flushed_stays _ [] fs left are all = flushed_reached _ fs left are all
+flushed_stays _ [] fs left are all = flushed_for_reached _ fs left are all
 flushed_stays _ (f ∷ gone) fs _ (a, b, are, is) all =
-    let reached = flushed_reached _ fs (a ++ f ∷ b) are all in
+    let reached = flushed_for_reached _ fs (a ++ f ∷ b) are all in
     flushed_stays _ gone _ _ is (all_append _ a b (all_front _ a _ reached) (all_back _ a _ reached).1)
 
 -- ---- what is durable
@@ -161,7 +161,7 @@ others_keep_safe laws file from f mail state after intent kept stands between ke
   flushed = keeps.flushed;
   left = λ left rows opened may is id d. elim (keeps.record_is left may) [
     | inl same ↦
-        let d' = rw (same_rows laws.one (stored_in file f).content rows after.rows (opened, rw same at is) (intent, stands)) at d in
+        let d' = rw (same_kept_rows laws.one (stored_in file f).content rows after.rows (opened, rw same at is) (intent, stands)) at d in
         ((kept.recorded id (between.shows_no_more id d')).0, shown id d')
     | inr before ↦ let was = safe.left left rows opened before is id d in (was.0, on id was.0 was.1)
   ];
@@ -305,7 +305,7 @@ pub durable_is_safe : Below → {F : Type 0} (file : FileGhosts F) → DurableAc
 durable_is_safe laws file f mail state intent kept stands durable same = record {
   flushed = all_map state.account.maildir.files durable (λ g is id legal names. (is id legal names).1);
   left = λ left rows opened may is id d.
-      let here = kept.recorded id (rw (same_rows laws.one (stored_in file f).content rows state.account.rows
+      let here = kept.recorded id (rw (same_kept_rows laws.one (stored_in file f).content rows state.account.rows
       (opened, rw (same left may) at is)
       (intent, stands)) at d) in (here.0, on id here.0 here.1);
   gone = all_map state.gone kept.gone (λ id is. on id is.0 is.1);
@@ -315,7 +315,7 @@ durable_is_safe laws file f mail state intent kept stands durable same = record 
     on = durable_by_files mail state durable
 
 pub all_left_durable : (account : List ℕ) (old new : Maildir) → LosesPower old new → AllByRecursion (IsDurableFor account) new.files
-all_left_durable _ _ new loses = all_map _ (left_durable _ _ loses.files) (λ g is _ _ _. is)
+all_left_durable _ _ new loses = all_map _ (each_left_durable _ _ loses.files) (λ g is _ _ _. is)
 
 -- ---- in order
 
@@ -326,8 +326,8 @@ safe_bits _ _ _ _ back = grind (arith, back)
 same_bits : (a b : Bool) → (a ≡ true → b ≡ true) → (b ≡ true → a ≡ true) → a ≡ b
 same_bits a b f g = grind (arith, f, g)
 
-abbrev AreLegal : List Message → Type 0
-AreLegal ms = AllByRecursion (λ (m : Message). is_legal_id m.uid ≡ true) ms
+abbrev AreLegalMessages : List Message → Type 0
+AreLegalMessages ms = AllByRecursion (λ (m : Message). is_legal_id m.uid ≡ true) ms
 
 -- ---- where it may begin
 
@@ -364,15 +364,15 @@ left_front mail state left kept taken all front =
     front_stays mail state (record state.account { maildir = left }) all front
     (λ id l held. or_left _ _ (held_back mail state left kept taken id held))
 
-module _ (mail : Mail) (state : State) (after : AccountMail) (all : List Message) (legal : AreLegal all)
+module _ (mail : Mail) (state : State) (after : AccountMail) (all : List Message) (legal : AreLegalMessages all)
     (front : IsDurableFront mail state all)
     (back : (id : List ℕ) → is_legal_id id ≡ true → is_held mail.account after.maildir id ≡ true → is_safe mail state id ≡ true)
     (on : (id : List ℕ) → is_legal_id id ≡ true → is_durable mail state id ≡ true
     → is_durable mail (state_with mail state [] after) id ≡ true) where
-  legal_done : AreLegal front.is.done
+  legal_done : AreLegalMessages front.is.done
   legal_done = all_front _ _ _ (rw front.is.prefix at legal)
 
-  pub legal_first : AreLegal front.first
+  pub legal_first : AreLegalMessages front.first
   legal_first = all_front _ _ _ (rw front.done at legal_done)
 
   abbrev pub others_keep_front : IsDurableFront mail (state_with mail state [] after) all
@@ -386,7 +386,7 @@ module _ (mail : Mail) (state : State) (after : AccountMail) (all : List Message
   }
 
 abbrev pub left_keeps_front : (mail : Mail) (state : State) (left : Maildir) (kept : Invariant mail state)
-    (taken : WereTaken state.account.maildir left) (all : List Message) → AreLegal all
+    (taken : WereTaken state.account.maildir left) (all : List Message) → AreLegalMessages all
     → IsDurableFront mail state all → IsDurableFront mail (with_left mail state left) all
 left_keeps_front mail state left kept taken all legal front =
     others_keep_front mail state (record state.account { maildir = left }) all legal front
@@ -395,7 +395,7 @@ left_keeps_front mail state left kept taken all legal front =
 pub others_keep_order : {F : Type 0} (file : FileGhosts F) (from f : F) (mail : Mail) (state : State)
     (after : AccountMail) → KeepsDurable file mail.account state.account from f after
     → ((id : List ℕ) → is_legal_id id ≡ true → is_held mail.account after.maildir id ≡ true → is_safe mail state id ≡ true)
-    → (all : List Message) → AreLegal all → IsDurableFront mail state all → IsDurableFront mail (state_with mail state [] after) all
+    → (all : List Message) → AreLegalMessages all → IsDurableFront mail state all → IsDurableFront mail (state_with mail state [] after) all
 others_keep_order file _ f mail state after keeps back all legal front =
     others_keep_front mail state after all legal front back (λ id l. durable_on mail state after id (keeps.named id l))
 
@@ -435,7 +435,7 @@ module _ (mail : Mail) (own : (m : Message) → names_id mail.account m.uid (nam
   module _ {W S F G : Type 0} (store : FileGhosts F) (from f : F) (state : State) (call : Call W S G) (sent : List ℕ)
       (now : AccountMail) (promises : Promises mail state call sent now)
       (leaves : LeavesDurably store mail.account from f state.account now)
-      (all : List Message) (legal : AreLegal all) (front : IsDurableFront mail state all)
+      (all : List Message) (legal : AreLegalMessages all) (front : IsDurableFront mail state all)
       (next : ShowsNext call.settings call.maildrop front.is.done front.is.rest) (clear : now.maildir.odd ≡ []) where
     abbrev after : State
     after = state_with mail state call.vanished now
@@ -496,7 +496,7 @@ module _ (mail : Mail) (own : (m : Message) → names_id mail.account m.uid (nam
 
 -- ---- what a loss of power leaves
 
-module _ (mail : Mail) (state : State) (after : AccountMail) (all : List Message) (legal : AreLegal all)
+module _ (mail : Mail) (state : State) (after : AccountMail) (all : List Message) (legal : AreLegalMessages all)
     (front : IsDurableFront mail state all) (loses : LosesPower state.account.maildir after.maildir) where
   abbrev next_state : State
   next_state = record state { account = after }

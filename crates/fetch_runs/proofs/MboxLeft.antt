@@ -33,7 +33,7 @@ use Rattle.fetch_runs.{
   proofs.{LeftRecords.{grown_reads, same_reads, merge_reads, IsBegun, end_of, Untouched, NotReady, Anew, Begun, way}, Tasks.rows_after},
   proofs.{Lists.{delivered_unheld, same_held}, Steps.{mbox_honest, retrieved_is}, Talk.{Planned, session_spoke}, Turns.{Course, effect_of}},
   proofs.MboxPromised.{bytes_of, ends_whole, entered, front_after, holds_after, next_is, open_row, opened_after, settled_is},
-  proofs.MboxState.{Begins, LeavesWhole, bytes_after, carried_starts, mbox_figures, mbox_inputs, mid_content, same_looked, whole_in},
+  proofs.MboxState.{BeginsSettled, LeavesWhole, bytes_after, carried_starts, mbox_figures, mbox_inputs, mid_content, same_looked, whole_in},
   proofs.MboxState.{whole_refused, whole_unsaved},
 }
 
@@ -230,9 +230,9 @@ module _ (base : Base) (Among : List Message → Type 0) where
 -- ---- what may be left of a file
 
 -- a loss of power may leave what calls see
-pub may_seen : {F : Type 0} (files : FileGhosts F) (f : F)
+pub may_leave_seen : {F : Type 0} (files : FileGhosts F) (f : F)
     → MayLeave (files.disk f) (stored_in files f).content
-may_seen files f = may_now _ _ (may_arrive _)
+may_leave_seen files f = may_now _ _ (may_arrive _)
 
 -- ---- a session
 
@@ -282,7 +282,7 @@ module _ (laws : Below) (D : Type 0) {F : Type 0} (files : FileGhosts F)
 
   -- the record that was read, with an mboxrd file that could be left
   read_before : (mbox : Option (List ℕ)) → MayLeave (files.disk from.store) mbox → HoldsIn held (mail_in mbox)
-  read_before mbox also = left_before old.file.content mbox (may_seen files from.file) also held stood
+  read_before mbox also = left_before old.file.content mbox (may_leave_seen files from.file) also held stood
 
   -- it is what calls see
   left_after : (left mbox : Option (List ℕ)) → left ≡ new.file.content → mbox ≡ new.mbox.content → Left left mbox
@@ -419,7 +419,8 @@ module _ (laws : Below) (D : Type 0) {F : Type 0} (files : FileGhosts F)
       reports = reports;
     }
 
-    begins : Begins v.settings v.now held old.mbox items (tasks_ahead v.settings AsEntries items v.now (in_mbox old.mbox) c.mid.rows) c.mid
+    begins : BeginsSettled v.settings v.now held old.mbox items
+        (tasks_ahead v.settings AsEntries items v.now (in_mbox old.mbox) c.mid.rows) c.mid
     begins = carried_starts laws (keeps_entries old) held stood c
 
     -- the mboxrd file after the tasks that were done

@@ -563,8 +563,8 @@ module _ (base : Base) where
             in_order = in_order;
           }
 
-pub starts : MboxStarts
-starts _ account closed = record {
+pub mbox_begins : MboxStarts
+mbox_begins _ account closed = record {
   are = record { each = tt; distinct = are_distinct [] tt };
   new = tt;
   recorded = λ _. sym (or-false _);

@@ -20,13 +20,13 @@ use Rattle.session_parts.{
 use Rattle.pop3_wire.specs.{Link.Link, Place.Place, Reading.WholeReply}
 use Rattle.fetch_runs.{
   specs.{Sessions.{MboxLeaves, MboxStores, IsBroken, IsUnsaved, settled, entries, bytes_at}, Below.Below, Steps.mbox_holds},
-  proofs.Turns.{found_in, found_by, text_found, Course, course, course_of, stored_done, found_of, course_stopped, course_does, begun_of},
+  proofs.Turns.{found_for, found_by, text_found, Course, course, course_of, stored_done, found_of, course_stopped, course_does, begun_of},
   proofs.Turns.effect_of,
   proofs.{Lists.{at_length, mapped_at, same_held as same_record}, State.{CourseLeads, by_course}},
-  proofs.Tasks.{key, fetched_in, fetched, IsRight, Inputs, rows_on, messages_on, texts_by, count, same_length, rows_after, Part, is_ended},
+  proofs.Tasks.{key, fetched_in, fetched_by, IsRight, Inputs, rows_on, messages_on, texts_by, count, same_length, rows_after, Part},
   proofs.Tasks.{right_part, wanted_are, records_part, Starts, or_less, Tally, not_ended, tally_begun, tally_number, tally_recorded},
   proofs.Tasks.{tally_none, mid_rows, mid_keeps, part_all, tally_all, part_done, tally_no_line, full_found, tally_spare, tally_old},
-  proofs.Tasks.{tally_new, full_rows},
+  proofs.Tasks.{tally_new, full_rows, is_ended},
 }
 use Rattle.mail_store.specs.{
   declared.fault.StoreFault.{StoreFault, TheVariants.{Missing, Refused, NotMbox, NoMemory as OutOfMemory}},
@@ -51,7 +51,7 @@ same_looked old new _ (refusal, _, (_, same)) = by refusal same
 
 -- no message counts as held, so each text that was retrieved was to be stored
 texts_one : (items : List Item) (task : Task) (replies : List WholeReply) → IsRight [] no_maildir items task
-    → texts_in task replies ≡ map text_found (found_in task replies)
+    → texts_in task replies ≡ map text_found (found_for task replies)
 texts_one _ (stores number _) replies _ = sym (map-map text_found (λ (reply : WholeReply). (number, body_text reply.body)) replies)
 texts_one _ (rereads _ _) replies right = absurd cc
 texts_one _ _ _ _ = refl
@@ -158,7 +158,7 @@ abbrev pub bytes_after : List Item → RecordState → Stored → List Done → 
 bytes_after items held mbox dones = bytes_settled items held mbox ++ entries (texts_by dones)
 
 -- the tasks of the plan begin with the settled account
-pub record Begins (settings : Settings) (now : ℕ) (held : RecordState) (mbox : Stored) (items : List Item) (tasks : List Task)
+pub record BeginsSettled (settings : Settings) (now : ℕ) (held : RecordState) (mbox : Stored) (items : List Item) (tasks : List Task)
     (old : Scene) : Type 0 where
   pub starts : Starts (mbox_inputs settings now held mbox items) tasks old
   pub content : old.store.mbox.content ≡ Some (bytes_settled items held mbox)
@@ -210,7 +210,7 @@ module _ {items : List Item} {result : Result (Unit {0}) Cut} {taken full : List
   }
 
 module _ {settings : Settings} {now : ℕ} {held : RecordState} {mbox : Stored} {items : List Item} {tasks : List Task} {old : Scene}
-    (begins : Begins settings now held mbox items tasks old) where
+    (begins : BeginsSettled settings now held mbox items tasks old) where
   open begins use {starts}
 
   abbrev q : Inputs
@@ -303,7 +303,7 @@ module _ {settings : Settings} {now : ℕ} {held : RecordState} {mbox : Stored} 
             is,
             flat_map-append fetched_in (tasks_of fell.dones) (stores number uid ∷ fell.later),
             ← same_length fell.dones fell.went.each,
-          ) (at_length (fetched (tasks_of fell.dones)) (number, uid) (fetched fell.later)))
+          ) (at_length (fetched_by (tasks_of fell.dones)) (number, uid) (fetched_by fell.later)))
 
           are : map text_found (found_of (course items taken spare under)) ≡ texts_by fell.dones ++ text ∷ []
           are = ap (map text_found) t.found ∙ full_texts
@@ -420,7 +420,7 @@ module _ (laws : Below) (before : Keeping) (held : RecordState) (keeps : Keeps b
   pub carried_starts : {settings : Settings} {now : ℕ} {items : List Item} {place : _} {result : Result (Unit {0}) Cut}
       {new : Scene} {skipped : _}
       → (is : Carried settings AsEntries items now place before.store before.file [] result new skipped)
-      → Begins settings now held before.store.mbox items (tasks_for settings AsEntries items now before.store is.mid.rows) is.mid
+      → BeginsSettled settings now held before.store.mbox items (tasks_for settings AsEntries items now before.store is.mid.rows) is.mid
   carried_starts {settings} {now} {items} is =
       let rows : is.mid.rows ≡ rows_on (mbox_inputs settings now held before.store.mbox items) =
       rw (is.prepared.rows, rows_are is.prepared.was items is.prepared.stood) refl in

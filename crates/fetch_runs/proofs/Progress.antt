@@ -26,14 +26,14 @@ use Rattle.fetch_runs.{
   specs.Promises.{Call, FetchesWanted, may_fetch},
   specs.Progress.{Aim, CallsGetFar, CountsOn, HasCome, IsFar, IsTowards, MboxCallsGetFar, aimed, count_done, share, uncut_after},
   proofs.Core.message_size,
-  proofs.Lists.{all_back, all_filter, all_front, all_ids_at, all_map, all_take, filter-filter, filter-swap, same_rows},
+  proofs.Lists.{all_back, all_filter, all_front, all_ids_at, all_map, all_take, filter-filter, filter-swap, same_kept_rows},
 }
 
 -- ---- counting
 
 -- one more in front
-behind : {X : Type 0} (p : X → Bool) (x : X) (xs : List X) → length (filter p xs) ≤ length (filter p (x ∷ xs))
-behind {X} p x xs = by (p x)
+no_fewer : {X : Type 0} (p : X → Bool) (x : X) (xs : List X) → length (filter p xs) ≤ length (filter p (x ∷ xs))
+no_fewer {X} p x xs = by (p x)
   where
     by : (passes : Bool) → length (filter p xs) ≤ length (cond passes (x ∷ filter p xs) (filter p xs))
     by true = let more : length (filter p xs) ≤ length (x ∷ filter p xs) = omega arith in more
@@ -45,7 +45,7 @@ fewer {X} p q more [] = let none : length {A = X} [] ≤ length {A = X} [] = ome
 fewer p q more (x ∷ xs) =
     let l = fewer p q more xs in
     let both : length (x ∷ filter p xs) ≤ length (x ∷ filter q xs) = omega (arith, l) in
-    let one : length (filter p xs) ≤ length (filter q (x ∷ xs)) = omega (arith, l, behind q x xs) in
+    let one : length (filter p xs) ≤ length (filter q (x ∷ xs)) = omega (arith, l, no_fewer q x xs) in
     ⊎_elim (λ (is : p x ≡ true). rw (is, more x is) both) (λ (isnt : p x ≡ false). rw isnt one) (cases_Bool (p x))
 
 -- so they are, if those are known of which it is so, and the first few of the others
@@ -58,7 +58,7 @@ kept_known known after (x ∷ xs) old = ⊎_elim
     let both : length (x ∷ filter known xs) ≤ length (x ∷ filter after xs) = omega (arith, l) in rw (is, o.0) both)
     (λ (isnt : known x ≡ false). let o : AllByRecursion (λ x. after x ≡ true) (filter known xs) = rw isnt at old in
     let l = kept_known known after xs o in
-    let one : length (filter known xs) ≤ length (filter after (x ∷ xs)) = omega (arith, l, behind after x xs) in rw isnt one)
+    let one : length (filter known xs) ≤ length (filter after (x ∷ xs)) = omega (arith, l, no_fewer after x xs) in rw isnt one)
     (cases_Bool (known x))
 
 abbrev Counted : {X : Type 0} → (known after : X → Bool) → ℕ → List X → Type 0
@@ -87,7 +87,7 @@ counted {X} known after k (x ∷ xs) old new = ⊎_elim
         → AllByRecursion (λ x. after x ≡ true) (take k (x ∷ filter (λ x. not (known x)) xs)) → Counted known after k (x ∷ xs)
     unknown again zero isnt old _ =
         let l = kept_known known after xs old in
-        let one : length (filter known xs) + 0 ≤ length (filter after (x ∷ xs)) = omega (arith, l, behind after x xs) in inl (rw isnt one)
+        let one : length (filter known xs) + 0 ≤ length (filter after (x ∷ xs)) = omega (arith, l, no_fewer after x xs) in inl (rw isnt one)
     unknown again (suc k) isnt old new = ⊎_elim
         (λ l. let one : length (filter known xs) + suc k ≤ length (x ∷ filter after xs) = omega (arith, l) in inl (rw (isnt, new.0) one))
         (λ l. let both : length (x ∷ xs) ≤ length (x ∷ filter after xs) = omega (arith, l) in inr (rw new.0 both))
@@ -235,7 +235,7 @@ shown_left : Below → (aim : Aim) (calls kept : ℕ) (content left : Option (Li
     (intent intent' : Option Intent) → FileStandsFor content rows intent → FileStandsFor left shown intent' → left ≡ content
     → kept ≤ calls → IsFar aim calls (is_delivered rows) → IsFar aim kept (is_delivered shown)
 shown_left laws aim calls kept content left rows shown intent intent' stands stands' is less far =
-    let same = same_rows laws.one content shown rows (intent', rw is at stands') (intent, stands) in
+    let same = same_kept_rows laws.one content shown rows (intent', rw is at stands') (intent, stands) in
     far_of_fewer aim kept calls (is_delivered shown) less (rw same far)
 
 -- what has come after a call

@@ -25,9 +25,9 @@ use Rattle.fetch_runs.{
   specs.Promises.IsBetween,
   proofs.Core.{added, added_begins, prefix_after, Fetch, all_wanted, distinct_wanted, texts_are, taken_is, wanted_ids, none_recorded},
   proofs.Core.{fetches_wanted, length_is, IsLegal, wants, stored_files, message_file, has_listed, fetched_within, order},
-  proofs.Lists.{ids_both, ids_filtered, any_filter, same_tests, is_some, Distinct, distinct_is, each_text, all_map, all_filter, all_take},
+  proofs.Lists.{ids_both, ids_filtered, any_filter, bytes_eq_alike, is_some, Distinct, distinct_is, each_text, all_map, all_filter},
   proofs.Lists.{all_append, all_at, all_both, all_ids_at, all_passing, members, no_texts, has_texts, texts_filtered, taken_more, mapped_at},
-  proofs.Lists.{all_mapped, delivered_all, delivered_marked, delivered_merged, marks_stay},
+  proofs.Lists.{all_mapped, all_take, delivered_all, delivered_marked, delivered_merged, marks_stay},
   proofs.Safety.served_session,
 }
 use Rattle.session_parts.specs.declared.report.Outcome.TheVariants.{Ended}
@@ -68,7 +68,8 @@ module _ (laws : Below) (account : List ℕ) (text : IsAccountText account) wher
       → AllByRecursion IsLegal ms → copies (map (message_file account) ms) (stem_of account id) ≡ texts_of ms id
   copies_messages [] _ l h = refl
   copies_messages (m ∷ ms) id l h =
-      let same = ap (bytes_eq (stem_of account id)) (its_stem m) ∙ same_tests (laws.differ account id m.uid l h.0) (ap (stem_of account)) in
+      let same = ap (bytes_eq (stem_of account id)) (its_stem m)
+      ∙ bytes_eq_alike (laws.differ account id m.uid l h.0) (ap (stem_of account)) in
       grind (arith, same, copies_messages ms id l h.1)
 
   -- their names are their own bases
@@ -347,12 +348,12 @@ module _ {W S F : Type 0} (laws : Below) {mail : Mail} (account_is : IsAccountTe
       unrecorded_got = by_setting o.settings.read_all refl
 
 -- a session that changed nothing
-left_kept : {W S F : Type 0} {mail : Mail} {state : State} (o : Call W S F) (now : AccountMail) (e : Effect)
+promised_unchanged : {W S F : Type 0} {mail : Mail} {state : State} (o : Call W S F) (now : AccountMail) (e : Effect)
     → Invariant mail state → Leaves state.account e now → (e.ended ≡ true) ↔ (o.report.outcome ≡ Ended)
     → {sent : List ℕ} → SendsOnly (IsBegun e.listing e.begun) sent
     → AllByRecursion (λ id. has_id e.begun id ≡ true) o.vanished → Promises mail state o sent now
     × Invariant mail (state_with mail state o.vanished now)
-left_kept {mail = mail} {state = state} o now e kept left ended sends vanished = (
+promised_unchanged {mail = mail} {state = state} o now e kept left ended sends vanished = (
   record {
     wanted = λ uncut. absurd (both_ways e.ended left.ended (ended.1 uncut));
     deletes = sends_such _ _ e (inr left.begun) (rw left.begun tt) sends;
@@ -399,6 +400,6 @@ pub sessions_keep_promises : Below
     × Invariant mail (state_with mail state call.vanished after)
 sessions_keep_promises laws mail state call _ after account_is kept is =
     let step = served_session laws is.session is.served in
-    ⊎_elim (λ left. left_kept call after is.effect kept left is.session.ended is.session.sends step.1)
+    ⊎_elim (λ left. promised_unchanged call after is.effect kept left is.session.ended is.session.sends step.1)
     (λ (stores, honest). stored_kept laws account_is call after kept is.effect is.maildrop stores honest is.odd
     is.session.ended is.session.sends is.session.retrieves step.1) step.0

@@ -27,7 +27,7 @@ use Rattle.rc_file.specs.declared.settings.Settings.{Settings}
 use Rattle.fetch_runs.{
   specs.{Below.Below, Losses.{KeepsRecorded, ShowsAll}},
   proofs.LeftRecords.{Anew, Begun, IsBegun, NotReady, Untouched, ended_way, left_stands, merge_reads, rows_in, way},
-  proofs.Lists.{marks_stay, same_rows},
+  proofs.Lists.{marks_stay, same_kept_rows},
 }
 
 -- a merge keeps what was recorded, and so does the end of an intent
@@ -63,15 +63,15 @@ module _ (laws : Below) {D F : Type 0} (files : FileGhosts F) (was store : Store
   by_safe safe could then may k = by new.content refl
     where
       by : (content : Option (List ℕ)) → new.content ≡ content → then ≡ rows
-      by None none = same_rows laws.one new.content then rows (rw (none_left none could may ∙ sym none) at k) keeps
-      by (Some bytes) some = same_rows laws.one new.content then rows (rw ((safe.1 bytes some).1 could may ∙ sym some) at k) keeps
+      by None none = same_kept_rows laws.one new.content then rows (rw (none_left none could may ∙ sym none) at k) keeps
+      by (Some bytes) some = same_kept_rows laws.one new.content then rows (rw ((safe.1 bytes some).1 could may ∙ sym some) at k) keeps
 
   abbrev Kept : Type 0
   Kept = (could : Option (List ℕ)) (then : List Row) → MayLeave (files.disk f) could → KeepsRows could then
       → MayLeave (files.disk from) could ⊎ ShowsAll shown then
 
   shown_in : (had : RecordState) → Keeps old.content had → ShowsAll shown had.rows
-  shown_in had stands id d = ap (λ r. is_delivered r id) (same_rows laws.one old.content had.rows shown (had.intent, stands) stood) ∙ d
+  shown_in had stands id d = ap (λ r. is_delivered r id) (same_kept_rows laws.one old.content had.rows shown (had.intent, stands) stood) ∙ d
 
   merged_kept : (items : List Item) (m : IsMerged target items now held old held' new)
       (Before : Option (List ℕ) → Type 0) → ((could : Option (List ℕ)) (then : List Row) → Before could
@@ -92,7 +92,7 @@ module _ (laws : Below) {D F : Type 0} (files : FileGhosts F) (was store : Store
   unready_kept items (inr m) (inl (_, leaves, _)) =
       merged_kept items m (MayLeave (files.disk from)) (λ could then before k. inl before) leaves
   unready_kept items (inr m) (inr (leaves, _)) = merged_kept items m (λ left. left ≡ old.content)
-      (λ could then is k. inr (λ id d. ap (λ r. is_delivered r id) (same_rows laws.one old.content then shown
+      (λ could then is k. inr (λ id d. ap (λ r. is_delivered r id) (same_kept_rows laws.one old.content then shown
       (subst (λ (c : Option (List ℕ)). KeepsRows c then) is k) stood) ∙ d)) leaves
 
   begun_kept : {cut : Cut} → IsBegun files session store f (Err cut) → Kept
@@ -105,7 +105,8 @@ module _ (laws : Below) {D F : Type 0} (files : FileGhosts F) (was store : Store
           ∙ merged_shows laws target held c.prepared.was w.dealt.items now id (shown_in c.prepared.was c.prepared.stood id d)
 
       by : (content : Option (List ℕ)) → new.content ≡ content → ShowsAll shown then
-      by None none id d = rw (same_rows laws.one new.content then rows (rw (none_left none could may ∙ sym none) at k) keeps) (stays id d)
+      by None none id d =
+          rw (same_kept_rows laws.one new.content then rows (rw (none_left none could may ∙ sym none) at k) keeps) (stays id d)
       by (Some bytes) some id d =
           let marks = marks_stay laws c.mid.rows (marked_ids c.does.dones) id (mid_shows id d) in
           elim (left_stands laws then (durably.0.left bytes some could may) k) [
@@ -130,7 +131,7 @@ module _ (laws : Below) {D F : Type 0} (files : FileGhosts F) (was store : Store
   keeps_recorded durably = record {
     left = λ could then opened may stands. session_kept durably could then may (opened, stands);
     uncut = λ ended. elim (ended_way files was from session store f durably trusted ended) [
-      | inl un ↦ inl (same_rows laws.one new.content rows shown keeps
+      | inl un ↦ inl (same_kept_rows laws.one new.content rows shown keeps
           (subst (λ (o : Option (List ℕ)). KeepsRows o shown) (sym (ap (λ (s : Stored). s.content) un.same)) stood))
       | inr safe ↦ inr (λ could then opened may stands id d. rw (by_safe safe could then may (opened, stands)) d)
     ];

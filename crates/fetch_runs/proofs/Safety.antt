@@ -78,9 +78,9 @@ record FoundIn (listing : List Item) (qs : List (ℕ × Item)) (texts : List (Li
   taken : IsAmong (message, text) (zip (take n qs) texts)
   listed : IsAmong text (take n texts)
 
-found_at : (listing : List Item) (n : ℕ) (qs : List (ℕ × Item)) (texts : List (List ℕ)) (id : List ℕ)
+wanted_id_found : (listing : List Item) (n : ℕ) (qs : List (ℕ × Item)) (texts : List (List ℕ)) (id : List ℕ)
     → AllByRecursion (IsFirstAt listing) qs → n ≤ length texts → has_id (ids_wanted (take n qs)) id ≡ true → FoundIn listing qs texts n id
-found_at listing (suc n) (q ∷ qs) (t ∷ ts) id first less is = elim (or_cases _ _ is) [
+wanted_id_found listing (suc n) (q ∷ qs) (t ∷ ts) id first less is = elim (or_cases _ _ is) [
   | inl same ↦ record {
     message = q;
     text = t;
@@ -91,7 +91,7 @@ found_at listing (suc n) (q ∷ qs) (t ∷ ts) id first less is = elim (or_cases
     listed = ([], _, refl);
   }
   | inr more ↦
-      let there = found_at _ n qs ts id first.1 (omega (arith, less)) more in
+      let there = wanted_id_found _ n qs ts id first.1 (omega (arith, less)) more in
       record {
         message = there.message;
         text = there.text;
@@ -102,7 +102,7 @@ found_at listing (suc n) (q ∷ qs) (t ∷ ts) id first less is = elim (or_cases
         listed = behind_one t _ there.listed;
       }
 ]
-found_at _ n qs texts _ first less is = absurd (grind (arith, less, is))
+wanted_id_found _ n qs texts _ first less is = absurd (grind (arith, less, is))
 
 -- what is made of an element that passes is among what is made of all that do
 among_made : {X Y : Type 0} (p : X → Bool) (f : X → Y) {x : X} (xs : List X) → IsAmong x xs → p x ≡ true
@@ -169,7 +169,7 @@ module _ (settings : Settings) (account : List ℕ) (before : AccountMail) (effe
       | inl known ↦ inl (⊎_map (λ old. old) (λ held. (and_parts _ _ held).1)
           (or_cases _ _ (sym (delivered_merged laws account before.maildir before.rows effect.listing effect.now id) ∙ known)))
       | inr stored ↦ ⊎_map inr (λ (free : is_held account before.maildir id ≡ false).
-          let t = found_at effect.listing s.stored qs effect.texts id
+          let t = wanted_id_found effect.listing s.stored qs effect.texts id
           (wanted_first settings (is_odd account before.maildir) (merged_rows account before effect) effect.listing)
           (fetched_within s) (taken_more (λ (q : ℕ × Item). q.1.uid) qs id (order s) stored) in (
             t,
@@ -202,7 +202,7 @@ module _ (settings : Settings) (before : MboxMail) (effect : Effect) (after : Mb
   entered laws s id e = elim (delivered_marked laws (mbox_rows before effect) _ id (rw s.rows at e)) [
     | inl known ↦ inl (sym (delivered_unheld laws (settled effect.listing before).rows effect.listing effect.now id) ∙ known)
     | inr stored ↦
-        let t = found_at effect.listing s.stored (mbox_wanted settings before effect) effect.texts id
+        let t = wanted_id_found effect.listing s.stored (mbox_wanted settings before effect) effect.texts id
         (wanted_first settings none_odd (mbox_rows before effect) effect.listing) (mbox_fetched s) stored in
         let tail = tail_of s in
         inr (

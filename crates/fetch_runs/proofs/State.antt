@@ -22,7 +22,7 @@ use Rattle.fetch_runs.{
   specs.{Sessions.{StopsAtList, StoresTexts as Did}, Below.Below, Accounts.without_flags, Steps.holds},
   proofs.Turns.{deleted_by, text_found, Course, course, SessionCourse, Idle, Deals, course_carried, course_carries, course_of, stored_done},
   proofs.Turns.{course_proceeded, found_of, spare_in, course_stopped, course_does, begun_of, effect_of},
-  proofs.Lists.same_rows,
+  proofs.Lists.same_kept_rows,
   proofs.Tasks.{tasks_ahead, Inputs, rows_on, count, rows_after, records_part, files_part, is_ended, Starts, Tally, tally_begun, mid_rows},
   proofs.Tasks.{tally_number, tally_none, mid_keeps, tally_all, tally_no_line, tally_spare, tally_old, tally_new, full_rows},
 }
@@ -104,7 +104,7 @@ pub came_too : (old new added : List File) → new ≡ old ++ added → without_
 came_too old _ added came = ap without_flags came ∙ map-append _ old added
 
 -- the account that a session left, and what it found; the record is the old one only if no task was begun
-pub record Leads (settings : Settings) (account : List ℕ) (now : ℕ) (maildir : Maildir) (rows : List Row)
+pub record LeavesAccount (settings : Settings) (account : List ℕ) (now : ℕ) (maildir : Maildir) (rows : List Row)
     (result : Result (Unit {0}) Cut) (c : Course) (maildir' : Maildir) (content' : Option (List ℕ)) : Type 0 where
   pub full : List Done
   pub noted : List Done
@@ -118,7 +118,7 @@ pub record Leads (settings : Settings) (account : List ℕ) (now : ℕ) (maildir
 -- what the session stored, and the report counts
 abbrev pub figures : {settings : Settings} {account : List ℕ} {now : ℕ} {maildir : Maildir} {rows : List Row}
     {result : Result (Unit {0}) Cut} {c : Course} {maildir' : Maildir} {content' : Option (List ℕ)}
-    (l : Leads settings account now maildir rows result c maildir' content') (report : Report) (commands : List Command)
+    (l : LeavesAccount settings account now maildir rows result c maildir' content') (report : Report) (commands : List Command)
     (part : List ℕ) → report.retrieved ≡ count c.taken → report.outcome ≡ outcome_of result
     → (begun_of c ≡ [] → StopsAtList report.outcome commands part)
     → Did settings account (holds rows maildir) (effect_of now (is_ended result) c) (holds l.rows' maildir') report commands part
@@ -140,7 +140,7 @@ module _ (settings : Settings) (account : List ℕ) (now : ℕ) (maildir : Maild
   p items = inputs settings account now maildir rows items
 
   abbrev Leading : Result (Unit {0}) Cut → Course → Maildir → Option (List ℕ) → Type 0
-  Leading result c maildir' content' = Leads settings account now maildir rows result c maildir' content'
+  Leading result c maildir' content' = LeavesAccount settings account now maildir rows result c maildir' content'
 
   -- ---- of tasks
 
@@ -246,13 +246,13 @@ module _ (settings : Settings) (account : List ℕ) (now : ℕ) (maildir : Maild
       elim is.unready.content [
         | inl content ↦ stays (rw content keeps)
         | inr m ↦
-            let were = same_rows laws.one file.content m.was.rows rows (m.was.intent, m.stood) keeps in
+            let were = same_kept_rows laws.one file.content m.was.rows rows (m.was.intent, m.stood) keeps in
             ⊎_elim (λ left. stays (m.was.intent, rw (← were) left)) (λ merges. lead none same (None, rw (← were) merges)) m.stands
       ]) (λ items place result new skipped is.
       let rows_are : is.mid.rows ≡ rows_on (p items) =
       rw (
         is.prepared.rows,
-        same_rows laws.one file.content is.prepared.was.rows rows (is.prepared.was.intent, is.prepared.stood) keeps,
+        same_kept_rows laws.one file.content is.prepared.was.rows rows (is.prepared.was.intent, is.prepared.stood) keeps,
       ) refl in
       let starts : Starts (p items) (tasks_ahead settings account items now maildir is.mid.rows) is.mid = record {
         laws = laws;

@@ -11,9 +11,9 @@ use Rattle.fetch_runs.{
   specs.Sessions.{IsBegun, SendsOnly, BeginsOne, Leaves, is_retr, tail_behind, AsksForNoMessage, IsHonest, Served, mbox_wanted},
   specs.{Steps.{holds, IsStep, SessionsLoseNothing, IsMboxStep, MboxSessionsLoseNothing, mbox_holds}, Below.Below},
   proofs.{Lists.{all_map, bytes_self, all_back}, Talk.{asks, name_of, word_of, Spoke, session_spoke, Planned, idle_said, is_tail_for}},
-  proofs.Turns.{Course, course, SessionCourse, Idle, Deals, begun_of, IsOfTask, begins_of, deleted_in, deleted_by, effect_of, tail_for},
-  proofs.Turns.{course_of, found_by, found_in},
-  proofs.{Tasks.{IsRight, found_all, count, is_ended, tally_numbers, tally_right}, State.{CourseLeads, Leads, course_leads, figures}},
+  proofs.Turns.{Course, course, SessionCourse, Idle, Deals, begun_of, IsOfTask, begins_weaker, deleted_in, deleted_by, effect_of, tail_for},
+  proofs.{Turns.{course_of, found_by, found_for}, State.figures},
+  proofs.{Tasks.{IsRight, found_all, count, is_ended, tally_numbers, tally_right}, State.{CourseLeads, LeavesAccount, course_leads}},
   proofs.{MboxState.{MboxLeads, Rests, course_leaves, mbox_figures}, Safety.{session_holds, mbox_session_holds, session_honest}},
 }
 use Rattle.pop3_wire.specs.{
@@ -60,7 +60,7 @@ sends_of account maildir items tasks right {commands} asked all next = record {
   commands = commands;
   asked = asked;
   each = all_map commands all (begun_one account maildir items tasks right);
-  next = begins_of (begun_one account maildir items tasks right) asked.part next;
+  next = begins_weaker (begun_one account maildir items tasks right) asked.part next;
 }
 
 -- ---- the outcome
@@ -84,7 +84,7 @@ module _ {settings : Settings} {target : Target} {now : ℕ} {link : Link} {befo
       let outcome = (ended_if _ refl).0 ended in
       let none = (said.by.ahead.whole outcome).0 in
       retrieved_is ∙ ap (λ l. length l) (sym (append-nil (found_by c.taken))) ∙ ap (λ under. length
-      (found_by c.taken ++ flat_map (λ task. found_in task c.spare) under)) (sym none) ∙ said.speaks.all none (ap tail_behind outcome)
+      (found_by c.taken ++ flat_map (λ task. found_for task c.spare) under)) (sym none) ∙ said.speaks.all none (ap tail_behind outcome)
 
 -- ---- with a Maildir
 
@@ -94,7 +94,7 @@ sessions_lose_nothing laws settings account now link before rows report link' af
     let holds' = session_holds laws step.session in (step, holds'.0, holds'.1)
   where
     joined : (session_course : SessionCourse)
-        → CourseLeads (λ (c : Course). Leads settings account now before.maildir rows is.result c after.maildir
+        → CourseLeads (λ (c : Course). LeavesAccount settings account now before.maildir rows is.result c after.maildir
         after.file.content) is.result (keeps_files before) (keeps_files after) is.notes.lines session_course
         → Spoke settings (AsFiles account) now (keeps_files before) link link' is.result is.notes.lines session_course
         → IsStep settings account now link before rows report link' after
@@ -184,7 +184,7 @@ mbox_sessions_lose_nothing laws settings now link before held report link' after
         retrieves = λ ended. absurd (both_ways _ rests.leaves.ended ended);
         step = inl (
           rests.leaves,
-          (all_map commands (rw rests.none at all) no_message, begins_of no_message asked.part (rw rests.none at next)),
+          (all_map commands (rw rests.none at all) no_message, begins_weaker no_message asked.part (rw rests.none at next)),
           retrieved,
         );
       };

@@ -46,8 +46,8 @@ use Rattle.fetch_runs.{
   specs.Conversations.{FollowsPlan, MboxSessionsFollowPlans, EndsInOpening, SpeaksByPlan, SessionsAreConversations, step_commands},
   proofs.Lists.{all_append, all_back, all_front},
   proofs.Turns.{Course, SessionCourse, Idle, Deals, course_does, course_carried, course_carries, course_dealt, course_of, course_proceeded},
-  proofs.Turns.{found_of, begun_of, IsOfTask, number_found, number_of, effect_of, said_in, commands_in, CanBeSaid, begins_any, begins_one},
-  proofs.Turns.{Commanded, commanded, IsCommand, replies_read, each_found, IsPlain, plain_ahead, said_tasks, commands_tasks, of_tasks},
+  proofs.Turns.{found_of, begun_of, IsOfTask, found_number, number_of, effect_of, said_in, commands_in, CanBeSaid, begins_any, begins_one},
+  proofs.Turns.{Commanded, commanded, IsCommand, replies_read, each_found, IsTaskOfPlan, plain_ahead, said_tasks, commands_tasks, of_tasks},
   proofs.Turns.{fronted, Goes, goes_tail, goes_broke, conversation, Took, tail_for, Ahead, ahead_cut, tailed, all_done, ahead_stopped},
 }
 use Rattle.fetch_record.specs.Record.{Row}
@@ -57,7 +57,7 @@ use mathlib.Core.Logic.{⊎_map}
 -- ---- The opening of a session, as the law over accounts reads it.
 
 -- the six replies to an opening
-pub record Replied (name word : List ℕ) (welcome : List WholeReply) (counted named sized : WholeReply) : Type 0 where
+pub record OpeningReplies (name word : List ℕ) (welcome : List WholeReply) (counted named sized : WholeReply) : Type 0 where
   pub hello : WholeReply
   pub to_user : WholeReply
   pub to_pass : WholeReply
@@ -65,15 +65,15 @@ pub record Replied (name word : List ℕ) (welcome : List WholeReply) (counted n
   pub good : AllZip IsGood (opening name word) (hello ∷ to_user ∷ to_pass ∷ counted ∷ named ∷ sized ∷ [])
 
 pub replied : {name word : List ℕ} (welcome : List WholeReply) {counted named sized : WholeReply}
-    → AllZip IsGood (opening name word) (welcome ++ counted ∷ named ∷ sized ∷ []) → Replied name word welcome counted named sized
+    → AllZip IsGood (opening name word) (welcome ++ counted ∷ named ∷ sized ∷ []) → OpeningReplies name word welcome counted named sized
 replied (a ∷ b ∷ c ∷ []) good = record { hello = a; to_user = b; to_pass = c; is = refl; good = good }
 replied (a ∷ b ∷ c ∷ d ∷ e ∷ f ∷ g ∷ more) good = absurd good.1.1.1.1.1.1
 replied _ good = search rules depth 9
 
 -- the greeting has no body
-pub no_body : (body : Option (List (List ℕ))) → IsBody greeting body → body ≡ None
-no_body None is = refl
-no_body (Some _) is = absurd is.1
+pub no_greeting_body : (body : Option (List (List ℕ))) → IsBody greeting body → body ≡ None
+no_greeting_body None is = refl
+no_greeting_body (Some _) is = absurd is.1
 
 -- the opening can be sent
 pub said_opening : (name word : List ℕ) → is_credential name ≡ true → is_credential word ≡ true
@@ -111,7 +111,7 @@ pub record Speaks (c : Course) (name word : List ℕ) (turns : List Turn) (sent 
   pub more : List Command
   pub asked : HasSent (asks name word more) sent
   pub reads : (now : ℕ) (ends : Bool) (messages : List (ℕ × Item))
-      → map number_found (found_of c) ≡ map number_of (take (length (found_of c)) messages)
+      → map found_number (found_of c) ≡ map number_of (take (length (found_of c)) messages)
       → ReadsReplies messages (asks name word more) sent got (effect_of now ends c)
   pub deletes : AllByRecursion (IsOfTask (begun_of c)) (asks name word more)
   pub next : BeginsOne (IsOfTask (begun_of c)) asked.part
@@ -175,7 +175,7 @@ pub record Said (c : Course) {name word : List ℕ} {start mid : Place} {count :
 pub spoken : Below → {name word : List ℕ} {count : ℕ} {uids : List UidRow} {sizes : List ScanRow} {start mid : Place}
     {turns : List Turn} {link : Link} → is_credential name ≡ true → is_credential word ≡ true
     → (c : Course) → IsTail turns → start.waiting ≡ [] → (opened : SessionOpened name word start mid count uids sizes)
-    → Joins count uids sizes c.items → AllByRecursion IsPlain (begun_of c) → (took : Took c mid turns link) → Said c opened took
+    → Joins count uids sizes c.items → AllByRecursion IsTaskOfPlan (begun_of c) → (took : Took c mid turns link) → Said c opened took
 spoken laws {name} {word} {start = start} {mid} {turns} {link} named' worded c kind none opened joins plain took =
     let speaks : Speaks c name word turns is.0 is.1 = record {
       more = commands_in took.done ++ (whole.ahead ++ whole.ends);
@@ -195,7 +195,7 @@ spoken laws {name} {word} {start = start} {mid} {turns} {link} named' worded c k
             rest = is.4.rest;
             whole = is.4.heard ∙ ap (λ ws. flat_map reply_bytes
                 ((ws ++ opened.counted ∷ opened.named ∷ opened.sized ∷ []) ++ took.replies) ++ is.4.rest) r.is
-                ∙ rw (no_body r.hello.body r.good.0.body) (simp (append_assoc, append-nil));
+                ∙ rw (no_greeting_body r.hello.body r.good.0.body) (simp (append_assoc, append-nil));
           } in
           let read : Retrieves (commands_in took.done ++ (whole.ahead ++ whole.ends)) took.replies (found_of c) =
           took.read (whole.ahead ++ whole.ends) in
@@ -225,7 +225,7 @@ spoken laws {name} {word} {start = start} {mid} {turns} {link} named' worded c k
     is = conversation none (laws.joins.on (opening name word) took.done (replies_to opened) took.replies start mid
         took.there opened.talked took.talked) took.goes
 
-    r : Replied name word opened.welcome opened.counted opened.named opened.sized
+    r : OpeningReplies name word opened.welcome opened.counted opened.named opened.sized
     r = replied opened.welcome opened.talked.good
 
     whole : Commanded (opening name word ++ took.done) took.begun turns is.0
@@ -327,7 +327,7 @@ pub record Dealing (settings : Settings) (target : Target) (items : List Item) (
 module _ (laws : Below) where
   ahead_does : (target : Target) (items : List Item) (tasks : List Task) (old new : Scene)
       (result : Result (Unit {0}) Cut) (link : Link) → (does : Does target tasks old result new)
-      → AllByRecursion IsPlain tasks → LeavesLink result new.place link → Ahead target items tasks old.lines new.lines result
+      → AllByRecursion IsTaskOfPlan tasks → LeavesLink result new.place link → Ahead target items tasks old.lines new.lines result
       (course_does target items tasks old new result does) old.place link
   ahead_does _ items _ _ new (Ok _) _ went plain leaves = record {
     took = rw leaves (all_done laws items went.dones went.went.talked (rw went.all at plain) went.went.each (record {
@@ -345,8 +345,8 @@ module _ (laws : Below) where
     whole = λ _. (refl, refl);
   }
   ahead_does target items tasks old new (Err cut) _ fell plain leaves =
-      let front = all_front IsPlain (tasks_of fell.dones) (fell.next ∷ fell.later) (rw fell.split at plain) in
-      let back = all_back IsPlain (tasks_of fell.dones) (fell.next ∷ fell.later) (rw fell.split at plain) in
+      let front = all_front IsTaskOfPlan (tasks_of fell.dones) (fell.next ∷ fell.later) (rw fell.split at plain) in
+      let back = all_back IsTaskOfPlan (tasks_of fell.dones) (fell.next ∷ fell.later) (rw fell.split at plain) in
       rw leaves.2 (ahead_stopped laws items fell front leaves.0 leaves.1 target back.0 fell.stops)
 
   module _ (settings : Settings) (target : Target) (items : List Item) (now : ℕ) (place : Place) (store : Stores)
@@ -398,14 +398,14 @@ turns_ahead settings AsEntries items now _ rows = plan_same (λ _. false) (step_
 
 -- ---- how many texts were taken
 
-taken_first : (task : Task) (replies : List WholeReply) → IsPlain task → AllZip IsGood (turns_in task) replies
+taken_first : (task : Task) (replies : List WholeReply) → IsTaskOfPlan task → AllZip IsGood (turns_in task) replies
     → count_by is_text_taken (lines_in task replies) ≡ retrieved_by (turns_in task)
 taken_first (says _) _ is good = rw is
 taken_first (stores number _) (r ∷ []) is good = refl
 taken_first (rereads number _) (r ∷ []) is good = refl
 taken_first _ _ is good = search rules
 
-pub taken_same : (dones : List Done) → AllByRecursion IsPlain (tasks_of dones) → AllByRecursion IsAnswered dones
+pub taken_same : (dones : List Done) → AllByRecursion IsTaskOfPlan (tasks_of dones) → AllByRecursion IsAnswered dones
     → count_by is_text_taken (report_lines dones) ≡ retrieved_by (turns_of dones)
 taken_same [] plain _ = refl
 taken_same (d ∷ dones) plain each =
@@ -436,7 +436,7 @@ pub record Planned (settings : Settings) (target : Target) (now : ℕ) (before :
   pub mid : Place
   pub enters : Enters_with settings (at link []) (Ok items) mid
   pub by : Dealing settings target items now before.store before.file [] lines c mid result link'
-  pub plain : AllByRecursion IsPlain (begun_of c)
+  pub plain : AllByRecursion IsTaskOfPlan (begun_of c)
   pub said : Said c enters.3 by.took
   pub open said use *
   pub split : plan_turns (name_of settings) (word_of settings) (planned settings (odd_in target before.store) by.rows items now)
@@ -463,7 +463,7 @@ session_spoke laws {settings} {target} {now} {link} {link'} {before} {after} val
         let few = few_items is.enters.3 is.enters.4 in
         let by = dealing laws settings target is.items now is.mid before.store before.file [] few result session.mid
         after.store after.file session.notes.lines session.notes.skipped link' is.carries leaves in
-        let plain = all_front IsPlain (begun_of c) by.ahead.later
+        let plain = all_front IsTaskOfPlan (begun_of c) by.ahead.later
         (rw by.ahead.split at (plain_ahead settings target is.items now before.store by.rows few)) in
         let said = spoken laws valid.valid_username valid.valid_password c (is_tail_for result) refl is.enters.3
         (rw (← by.ahead.same_items) at is.enters.4) plain by.took in
@@ -505,9 +505,9 @@ session_spoke laws {settings} {target} {now} {link} {link'} {before} {after} val
     spoke (Err cut) (inr (inr is)) leaves = planned_talk (Err cut) is leaves
 
 -- its commands are the first of a plan without steps
-follows_none : Below → (settings : Settings) → IsValid settings → {turns : List Turn} {link link' : Link} → IsTail turns
+follows_no_steps : Below → (settings : Settings) → IsValid settings → {turns : List Turn} {link link' : Link} → IsTail turns
     → (it : OpensAlone (name_of settings) (word_of settings) turns link link') → FollowsPlan settings [] it.sent
-follows_none laws settings valid kind it =
+follows_no_steps laws settings valid kind it =
     let whole = commanded_opening laws _ _ valid.valid_username valid.valid_password kind it.said in
     search (
       whole.asked,
@@ -524,7 +524,7 @@ mbox_sessions_follow_plans laws settings now link before report link' after vali
     by : (session_course : SessionCourse)
         → Spoke settings AsEntries now (keeps_entries before) link link' session.result session.notes.lines
         session_course → (sent : List ℕ) × (link'.sent ≡ link.sent ++ sent) × (steps : List Step) × FollowsPlan settings steps sent
-    by Idle it = (it.sent, it.sent_is, [], follows_none laws settings valid (is_tail_for session.result) it)
+    by Idle it = (it.sent, it.sent_is, [], follows_no_steps laws settings valid (is_tail_for session.result) it)
     by (Deals c) p = (p.sent, p.sent_is, planned settings none_odd p.by.rows p.items now, p.follows)
 
 commands_of : (commands : List Command) → commands_in (map Some commands) ≡ commands
@@ -599,7 +599,7 @@ sessions_are_conversations laws settings account now link before report link' af
             subst (λ (cs : List Command). HasSent cs p.sent) same p.whole.asked
 
         number : retrieved_by (turns_of c.taken) ≡ report.retrieved
-        number = sym (taken_same c.taken (all_front IsPlain (tasks_of c.taken) c.under p.plain) p.by.took.each)
+        number = sym (taken_same c.taken (all_front IsTaskOfPlan (tasks_of c.taken) c.under p.plain) p.by.took.each)
             ∙ ap (λ (l : List ReportLine). count_by is_text_taken l) (sym p.by.ahead.told) ∙ sym session.reports.retrieved_is
 
     by : (session_course : SessionCourse) → (session_course ≡ Idle → report.outcome ≢ Ended)
@@ -612,6 +612,6 @@ sessions_are_conversations laws settings account now link before report link' af
           it.got,
           it.sent_is,
           it.got_is,
-          inl (record { said = said; cut = cut refl; follows = follows_none laws settings valid (is_tail_for session.result) it }),
+          inl (record { said = said; cut = cut refl; follows = follows_no_steps laws settings valid (is_tail_for session.result) it }),
         )
     by (Deals c) _ p = (p.sent, p.got, p.sent_is, p.got_is, inr (by_plan c p))

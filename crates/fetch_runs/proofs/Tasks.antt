@@ -27,8 +27,8 @@ use Rattle.session_parts.specs.{
 use Rattle.pop3_wire.specs.{Place.Place, Reading.WholeReply}
 use Rattle.fetch_runs.{
   specs.{Sessions.{file_for, is_unheld, ids_wanted, IsUnsaved, settled}, Below.Below},
-  proofs.Turns.{found_in, found_by, deleted_in, deleted_by, number_found, text_found, Course, course, stored_done, found_of, nothing_found},
-  proofs.Turns.number_of,
+  proofs.Turns.{found_for, found_by, deleted_in, deleted_by, found_number, text_found, Course, course, stored_done, found_of},
+  proofs.Turns.{nothing_found, number_of},
   proofs.{Lists.{bytes_self, bytes_same, all_append, all_front, all_map, marks_stay}, Core.{IsNumbered, are_numbered}},
 }
 use mathlib.Core.Logic.{⊎_map}
@@ -48,8 +48,8 @@ fetched_in (stores number uid) = (number, uid) ∷ []
 fetched_in (rereads number uid) = (number, uid) ∷ []
 fetched_in _ = []
 
-abbrev pub fetched : List Task → List (ℕ × List ℕ)
-fetched tasks = flat_map fetched_in tasks
+abbrev pub fetched_by : List Task → List (ℕ × List ℕ)
+fetched_by tasks = flat_map fetched_in tasks
 
 -- what a task fetches is listed, and is stored only if it isn't held; what it deletes is at its number, and
 -- no other message has its id
@@ -89,8 +89,8 @@ pub record Inputs : Type 0 where
 abbrev pub rows_on : Inputs → List Row
 rows_on p = merged p.rows p.items (flags_of p.account p.maildir p.items) p.now
 
-abbrev pub tasks_on : Inputs → List Task
-tasks_on p = tasks_ahead p.settings p.account p.items p.now p.maildir (rows_on p)
+abbrev pub ahead_on : Inputs → List Task
+ahead_on p = tasks_ahead p.settings p.account p.items p.now p.maildir (rows_on p)
 
 -- of which ids what can't be opened bears a name
 abbrev pub odd_on : Inputs → List ℕ → Bool
@@ -106,13 +106,13 @@ abbrev steps_on : Inputs → ℕ × Item → Step
 steps_on p = step_of p.settings (odd_on p) (rows_on p) p.items p.now
 
 -- the tasks of a plan are those of its messages, and QUIT
-tasks_are : (p : Inputs) → tasks_on p ≡ flat_map (tasks_at (steps_on p) (is_held p.account p.maildir)) (numbered p.items) ++ says quit ∷ []
+tasks_are : (p : Inputs) → ahead_on p ≡ flat_map (tasks_at (steps_on p) (is_held p.account p.maildir)) (numbered p.items) ++ says quit ∷ []
 tasks_are p = rw (by_message (steps_on p) (is_held p.account p.maildir) 1 p.items) refl
 
 -- ---- what is fetched
 
 fetched_plan : (f : ℕ × Item → Step) (held : List ℕ → Bool) → ((q : ℕ × Item) → (f q).number ≡ q.0) → (qs : List (ℕ × Item))
-    → fetched (flat_map (tasks_at f held) qs) ≡ map key (map (λ (p : Step × (ℕ × Item)). p.1)
+    → fetched_by (flat_map (tasks_at f held) qs) ≡ map key (map (λ (p : Step × (ℕ × Item)). p.1)
     (filter (λ (p : Step × (ℕ × Item)). fetches p.0) (zip (map f qs) qs)))
 fetched_plan f held same [] = refl
 fetched_plan f held same (q ∷ qs) =
@@ -166,7 +166,7 @@ module _ (D : List ℕ → Type 0) (p : Inputs) (delivered : (uid : List ℕ) �
 
   -- a plan is right, and safe for what holds of each id that is recorded as delivered after the merge, or is held and
   -- listed
-  fit_ahead : AllByRecursion (IsRightOn p) (tasks_on p) × Safe D p.items (tasks_on p)
+  fit_ahead : AllByRecursion (IsRightOn p) (ahead_on p) × Safe D p.items (ahead_on p)
   fit_ahead =
       let all = fit_all _ (says quit ∷ []) (are_numbered p.items) in
       rw (tasks_are p) (all_append _ _ _ all.0 (tt, tt), all.1 tt)
@@ -183,14 +183,14 @@ count dones = length (found_by dones)
 -- ---- numbers, and lines in the report
 
 found_one : (task : Task) (replies : List WholeReply) → AllZip IsGood (turns_in task) replies
-    → (map number_found (found_in task replies) ≡ map (λ (p : ℕ × List ℕ). p.0) (fetched_in task))
-    × (retrieved_in (lines_in task replies) ≡ length (found_in task replies))
+    → (map found_number (found_for task replies) ≡ map (λ (p : ℕ × List ℕ). p.0) (fetched_in task))
+    × (retrieved_in (lines_in task replies) ≡ length (found_for task replies))
 found_one (stores number _) (_ ∷ []) answered = (refl, refl)
 found_one (rereads number _) (_ ∷ []) answered = (refl, refl)
 found_one _ _ answered = search rules
 
 pub found_all : (dones : List Done) → AllByRecursion IsAnswered dones
-    → (map number_found (found_by dones) ≡ map (λ (p : ℕ × List ℕ). p.0) (fetched (tasks_of dones)))
+    → (map found_number (found_by dones) ≡ map (λ (p : ℕ × List ℕ). p.0) (fetched_by (tasks_of dones)))
     × (retrieved_in (report_lines dones) ≡ count dones)
 found_all [] answered = (refl, refl)
 found_all (d ∷ dones) answered =
@@ -198,14 +198,14 @@ found_all (d ∷ dones) answered =
     let more = found_all dones answered.1 in
     let sum = sum_by-append (λ line. cond (is_text_taken line) 1 0) (lines_in d.task d.replies) (report_lines dones) in (
       simp (map-append, first.0, more.0),
-      omega (arith, first.1, more.1, sum, length-append (found_in d.task d.replies) (found_by dones)),
+      omega (arith, first.1, more.1, sum, length-append (found_for d.task d.replies) (found_by dones)),
     )
 
 -- ---- files
 
 files_by : (account : List ℕ) (maildir : Maildir) (items : List Item) (dones : List Done) (messages : List (ℕ × Item))
     → AllByRecursion IsAnswered dones
-    → AllByRecursion (IsRight account maildir items) (tasks_of dones) → fetched (tasks_of dones) ≡ map key messages
+    → AllByRecursion (IsRight account maildir items) (tasks_of dones) → fetched_by (tasks_of dones) ≡ map key messages
     → files_of account dones ≡ map (file_for account) (filter (is_unheld account maildir) (zip messages (texts_by dones)))
 files_by account maildir items [] [] answered _ _ = refl
 files_by account maildir items [] (m ∷ _) answered right are = absurd cc
@@ -213,18 +213,18 @@ files_by account maildir items (d ∷ dones) messages answered right are =
     by d.task d.replies messages answered.0 right.0 are (λ more. files_by account maildir items dones more answered.1 right.1)
   where
     by : (task : Task) (replies : List WholeReply) (ms : List (ℕ × Item)) → AllZip IsGood (turns_in task) replies
-        → IsRight account maildir items task → fetched_in task ++ fetched (tasks_of dones) ≡ map key ms
-        → ((more : List (ℕ × Item)) → fetched (tasks_of dones) ≡ map key more → files_of account dones ≡ map (file_for account)
+        → IsRight account maildir items task → fetched_in task ++ fetched_by (tasks_of dones) ≡ map key ms
+        → ((more : List (ℕ × Item)) → fetched_by (tasks_of dones) ≡ map key more → files_of account dones ≡ map (file_for account)
         (filter (is_unheld account maildir) (zip more (texts_by dones))))
         → files_in account task replies ++ files_of account dones ≡ map (file_for account)
-        (filter (is_unheld account maildir) (zip ms (map text_found (found_in task replies ++ found_by dones))))
+        (filter (is_unheld account maildir) (zip ms (map text_found (found_for task replies ++ found_by dones))))
     by (stores number uid) (reply ∷ []) (q ∷ ms) is right are ih = grind (arith, are, ih ms, right.0)
     by (rereads number uid) (reply ∷ []) (q ∷ ms) is right are ih = grind (arith, are, ih ms, right.0)
     by task replies ms is right are ih = grind (arith, are, is, ih ms)
 
 -- ---- a plan that fetches what is wanted, as far as it was done
 
-pub same_length : (dones : List Done) → AllByRecursion IsAnswered dones → length (fetched (tasks_of dones)) ≡ count dones
+pub same_length : (dones : List Done) → AllByRecursion IsAnswered dones → length (fetched_by (tasks_of dones)) ≡ count dones
 same_length dones answered = omega (arith, simp length-map at (ap (λ l. length l) (found_all dones answered).0))
 
 -- the rows once these were done
@@ -239,7 +239,7 @@ IsRecorded p dones uid = is_delivered (rows_after p dones) uid ≡ true
 pub record Part (p : Inputs) (dones : List Done) : Type 0 where
   pub laws : Below
   pub rest : List Task
-  pub split : tasks_on p ≡ tasks_of dones ++ rest
+  pub split : ahead_on p ≡ tasks_of dones ++ rest
   pub answered : AllByRecursion IsAnswered dones
 
 -- ---- marks that change nothing
@@ -276,7 +276,7 @@ held_settled laws p uid listed held =
 marks_by : (p : Inputs) (tasks : List Task) (rows : List Row)
     → ((uid : List ℕ) → has_item p.items uid ≡ true → is_held p.account p.maildir uid ≡ true
     → AllByRecursion (IsSettled uid) rows) → AllByRecursion (IsRightOn p) tasks
-    → marked_all rows (ids_ahead tasks) ≡ marked_all rows (map (λ (found : ℕ × List ℕ). found.1) (fetched tasks))
+    → marked_all rows (ids_ahead tasks) ≡ marked_all rows (map (λ (found : ℕ × List ℕ). found.1) (fetched_by tasks))
 marks_by p [] rows settled _ = refl
 marks_by p (stores number _ ∷ tasks) rows settled right = marks_by p tasks _
     (λ _ listed held. settled_marked _ _ _ (settled _ listed held)) right.1
@@ -316,10 +316,10 @@ safe_front D items (stores number _ ∷ tasks) next later safe all = safe_front 
 safe_front D items (deletes number ∷ tasks) next later safe all = all_append D _ _ safe.0 (safe_front D _ tasks _ _ safe.1 all)
 safe_front D items (_ ∷ tasks) next later safe all = safe_front D _ tasks _ _ safe all
 
-right_front : (p : Inputs) (front rest : List Task) → tasks_on p ≡ front ++ rest → AllByRecursion (IsRightOn p) front
+right_front : (p : Inputs) (front rest : List Task) → ahead_on p ≡ front ++ rest → AllByRecursion (IsRightOn p) front
 right_front p front rest split = all_front _ _ _ (rw split at (fit_ahead (λ _. Unit {0}) p (λ _ _. tt) (λ _ _ _. tt)).0)
 
-pub wanted_are : Below → (p : Inputs) → fetched (tasks_on p) ≡ map key (messages_on p)
+pub wanted_are : Below → (p : Inputs) → fetched_by (ahead_on p) ≡ map key (messages_on p)
 wanted_are laws p =
     simp (
       tasks_are,
@@ -352,11 +352,12 @@ module _ {p : Inputs} {dones : List Done} (part : Part p dones) where
       (stored_has_row part.laws p (tasks_of dones) right_part))
 
   -- the tasks so far fetched the first of the wanted messages
-  fetched_part : fetched (tasks_of dones) ≡ map key (take (count dones) (messages_on p))
+  fetched_part : fetched_by (tasks_of dones) ≡ map key (take (count dones) (messages_on p))
   fetched_part =
-      let all : fetched (tasks_of dones) ++ fetched part.rest ≡ map key (messages_on p) =
+      let all : fetched_by (tasks_of dones) ++ fetched_by part.rest ≡ map key (messages_on p) =
       simp (← flat_map-append, ← part.split, wanted_are part.laws) in
-      rw (← take-map, ← all) (sym (take_at (fetched (tasks_of dones)) (fetched part.rest) (count dones) (same_length _ part.answered)))
+      rw (← take-map, ← all)
+      (sym (take_at (fetched_by (tasks_of dones)) (fetched_by part.rest) (count dones) (same_length _ part.answered)))
 
   -- the record is the merged one, with the first of the wanted messages marked
   pub records_part : rows_after p dones ≡ marked_all (rows_on p) (ids_wanted (take (count dones) (messages_on p)))
@@ -375,7 +376,7 @@ is_ended (Err _) = false
 -- the tasks of the plan begin with its rows
 pub record Starts (p : Inputs) (tasks : List Task) (old : Scene) : Type 0 where
   pub laws : Below
-  pub tasks_are : tasks ≡ tasks_on p
+  pub tasks_are : tasks ≡ ahead_on p
   pub rows : old.rows ≡ rows_on p
   pub steady : Steady old.file.content (none_open old.rows)
 
@@ -413,7 +414,7 @@ module _ {p : Inputs} where
     pub tally_begun : AllByRecursion (IsRecorded p noted) (deleted_by p.items (tasks_of c.taken ++ c.under))
     tally_begun = rw t.begun (safe_part t.part t.next t.later t.rest)
 
-    pub tally_numbers : map number_found (found_of c) ≡ map number_of (take (length (found_of c)) (messages_on p))
+    pub tally_numbers : map found_number (found_of c) ≡ map number_of (take (length (found_of c)) (messages_on p))
     tally_numbers = rw t.found ((found_all _ t.whole.answered).0 ∙ simp (fetched_part t.whole, map-map))
 
     pub tally_number : length (map text_found (found_of c)) ≡ count full
@@ -437,7 +438,7 @@ module _ {p : Inputs} where
 
   -- nothing was done
   pub tally_none : {cut : Cut} {refused : Type 0} → Below → Tally p (Err cut) (course p.items [] [] []) [] [] refused
-  tally_none laws = tally_recorded (record { laws = laws; rest = tasks_on p; split = refl; answered = tt }) not_ended
+  tally_none laws = tally_recorded (record { laws = laws; rest = ahead_on p; split = refl; answered = tt }) not_ended
 
   module _ {target : Target} {tasks : List Task} {old : Scene} (starts : Starts p tasks old) where
     pub mid_rows : {dones : List Done} {mid : Scene} → Went target dones old mid → mid.rows ≡ rows_after p dones
@@ -513,7 +514,7 @@ module _ {p : Inputs} where
         }
 
         pub full_found : found_by full ≡ found_by fell.dones ++ (number, body_text reply.body) ∷ []
-        full_found = flat_map-append (λ d. found_in d.task d.replies) fell.dones (stored_done number uid reply ∷ [])
+        full_found = flat_map-append (λ d. found_for d.task d.replies) fell.dones (stored_done number uid reply ∷ [])
 
         one_found : count fell.dones + 1 ≡ count full
         one_found = simp (full_found, length-append)

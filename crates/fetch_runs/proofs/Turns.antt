@@ -130,17 +130,17 @@ course_of {settings} {target} {now} {link} {before = before} {after} session =
 -- ---- what was retrieved
 
 -- the number and the text of each reply to a task's RETR
-abbrev pub found_in : Task → List WholeReply → List (ℕ × List ℕ)
-found_in (stores number _) replies = map (λ (reply : WholeReply). (number, body_text reply.body)) replies
-found_in (rereads number _) replies = map (λ (reply : WholeReply). (number, body_text reply.body)) replies
-found_in _ replies = []
+abbrev pub found_for : Task → List WholeReply → List (ℕ × List ℕ)
+found_for (stores number _) replies = map (λ (reply : WholeReply). (number, body_text reply.body)) replies
+found_for (rereads number _) replies = map (λ (reply : WholeReply). (number, body_text reply.body)) replies
+found_for _ replies = []
 
 abbrev pub found_by : List Done → List (ℕ × List ℕ)
-found_by dones = flat_map (λ (d : Done). found_in d.task d.replies) dones
+found_by dones = flat_map (λ (d : Done). found_for d.task d.replies) dones
 
 -- all that was retrieved
 abbrev pub found_of : Course → List (ℕ × List ℕ)
-found_of course = found_by course.taken ++ flat_map (λ (task : Task). found_in task course.spare) course.under
+found_of course = found_by course.taken ++ flat_map (λ (task : Task). found_for task course.spare) course.under
 
 -- the tasks that were begun
 abbrev pub begun_of : Course → List Task
@@ -160,8 +160,8 @@ deleted_in items _ = []
 abbrev pub deleted_by : List Item → List Task → List (List ℕ)
 deleted_by items tasks = flat_map (deleted_in items) tasks
 
-abbrev pub number_found : ℕ × List ℕ → ℕ
-number_found found = found.0
+abbrev pub found_number : ℕ × List ℕ → ℕ
+found_number found = found.0
 
 abbrev pub text_found : ℕ × List ℕ → List ℕ
 text_found found = found.1
@@ -221,9 +221,9 @@ pub begins_one : (Is : Command → Type 0) (next : List Command) (part : List �
 begins_one Is [] _ none all = inl none
 begins_one Is (command ∷ _) _ (unsent, is) all = inr (command, unsent, is, all.0)
 
-pub begins_of : {Is Other : Command → Type 0} → ((command : Command) → Is command → Other command) → (part : List ℕ)
+pub begins_weaker : {Is Other : Command → Type 0} → ((command : Command) → Is command → Other command) → (part : List ℕ)
     → BeginsOne Is part → BeginsOne Other part
-begins_of on _ = ⊎_map (λ none. none) (λ (command, unsent, is, holds). (command, unsent, is, on _ holds))
+begins_weaker on _ = ⊎_map (λ none. none) (λ (command, unsent, is, holds). (command, unsent, is, on _ holds))
 
 -- the commands that were sent whole: those of the completed turns, of the one that was begun, and of the tail
 pub record Commanded (done begun tail : List Turn) (sent : List ℕ) : Type 0 where
@@ -327,17 +327,17 @@ text_body _ None none = absurd (true≢false none)
 text_body _ (Some lines) is = record { lines = lines; content = is.0; whole = refl; read = refl }
 
 -- a task as a plan has it: its number is below 2 ^ 32, and a turn for no message is QUIT
-abbrev pub IsPlain : Task → Type 0
-IsPlain (says turn) = turn ≡ quit
-IsPlain (skips _ _) = Unit {0}
-IsPlain (stores number _) = number < 2 ^ 32
-IsPlain (rereads number _) = number < 2 ^ 32
-IsPlain (deletes number) = number < 2 ^ 32
+abbrev pub IsTaskOfPlan : Task → Type 0
+IsTaskOfPlan (says turn) = turn ≡ quit
+IsTaskOfPlan (skips _ _) = Unit {0}
+IsTaskOfPlan (stores number _) = number < 2 ^ 32
+IsTaskOfPlan (rereads number _) = number < 2 ^ 32
+IsTaskOfPlan (deletes number) = number < 2 ^ 32
 
 -- what one task's replies retrieve, before others
 read_first : (task : Task) (replies others : List WholeReply) (commands : List Command) (found : List (ℕ × List ℕ))
-    → IsPlain task → AllZip IsGood (turns_in task) replies → Retrieves commands others found
-    → Retrieves (commands_in (turns_in task) ++ commands) (replies ++ others) (found_in task replies ++ found)
+    → IsTaskOfPlan task → AllZip IsGood (turns_in task) replies → Retrieves commands others found
+    → Retrieves (commands_in (turns_in task) ++ commands) (replies ++ others) (found_for task replies ++ found)
 read_first (says _) (r ∷ []) _ _ _ is _ later = rw is later
 read_first (skips _ _) [] _ _ _ _ _ later = later
 read_first (stores number _) (r ∷ []) _ _ found _ good later = (body_text r.body, found, text_body number r.body good.0.body, refl, later)
@@ -347,20 +347,20 @@ read_first task replies others commands found is good later = search rules
 
 -- what the replies to done tasks retrieve, before others
 pub dones_read : (dones : List Done) (others : List WholeReply) (commands : List Command) (found : List (ℕ × List ℕ))
-    → AllByRecursion IsPlain (tasks_of dones) → AllByRecursion IsAnswered dones → Retrieves commands others found
+    → AllByRecursion IsTaskOfPlan (tasks_of dones) → AllByRecursion IsAnswered dones → Retrieves commands others found
     → Retrieves (commands_in (turns_of dones) ++ commands) (replies_of dones ++ others) (found_by dones ++ found)
 dones_read [] _ _ _ _ _ later = later
 dones_read (d ∷ dones) others commands found plain answered later =
     simp (flat_map-append, append_assoc) (read_first _ _ _ _ _ plain.0 answered.0 (dones_read dones _ _ _ plain.1 answered.1 later))
 
-pub nothing_found : (task : Task) → found_in task [] ≡ []
+pub nothing_found : (task : Task) → found_for task [] ≡ []
 nothing_found (stores _ _) = refl
 nothing_found _ = refl
 
 -- ---- the tasks of a plan
 
 plain_planned : (steps : List Step) (items : List Item) (held : List Bool)
-    → AllByRecursion (λ (s : Step). s.number < 2 ^ 32) steps → AllByRecursion IsPlain (tasks_planned steps items held)
+    → AllByRecursion (λ (s : Step). s.number < 2 ^ 32) steps → AllByRecursion IsTaskOfPlan (tasks_planned steps items held)
 plain_planned (s ∷ steps) (i ∷ items) (h ∷ held) small = grind (arith, small.0, plain_planned steps items held small.1)
 plain_planned _ items _ _ = tt
 
@@ -372,7 +372,7 @@ small_steps f same n (item ∷ items) within =
 
 -- of a listing of at most 100,000 messages
 pub plain_ahead : (settings : Settings) (target : Target) (items : List Item) (now : ℕ) (store : Stores)
-    (rows : List Row) → length items ≤ 100000 → AllByRecursion IsPlain (tasks_ahead settings target items now store rows)
+    (rows : List Row) → length items ≤ 100000 → AllByRecursion IsTaskOfPlan (tasks_ahead settings target items now store rows)
 plain_ahead settings target items now store rows few =
     all_append _ _ _ (plain_planned _ _ _ (small_steps (step_of settings (odd_in target store) rows items now) (λ q. refl) 1 items
     (omega (arith, few))))
@@ -382,26 +382,26 @@ plain_ahead settings target items now store rows few =
 
 -- what holds of QUIT, and of RETR and DELE with a small number, holds of the turns of plain tasks
 turns_all : (P : Turn → Type 0) → P quit → ((n : ℕ) → n < 2 ^ 32 → P (retr n) × P (dele n)) → (tasks : List Task)
-    → AllByRecursion IsPlain tasks → AllByRecursion P (flat_map turns_in tasks)
+    → AllByRecursion IsTaskOfPlan tasks → AllByRecursion P (flat_map turns_in tasks)
 turns_all P _ _ [] _ = tt
 turns_all P quits some (says _ ∷ tasks) plain = (rw plain.0 quits, turns_all P quits some tasks plain.1)
 turns_all P quits some (_ ∷ tasks) plain = let later = turns_all P quits some tasks plain.1 in grind (arith, some, plain.0, later)
 
-pub said_tasks : (tasks : List Task) → AllByRecursion IsPlain tasks → AllByRecursion CanBeSaid (flat_map turns_in tasks)
+pub said_tasks : (tasks : List Task) → AllByRecursion IsTaskOfPlan tasks → AllByRecursion CanBeSaid (flat_map turns_in tasks)
 said_tasks = turns_all _ (refl, tt) (λ n small. ((refl, small), (refl, small)))
 
-pub commands_tasks : (tasks : List Task) → AllByRecursion IsPlain tasks → AllByRecursion IsCommand (flat_map turns_in tasks)
+pub commands_tasks : (tasks : List Task) → AllByRecursion IsTaskOfPlan tasks → AllByRecursion IsCommand (flat_map turns_in tasks)
 commands_tasks = turns_all _ tt (λ n _. (tt, tt))
 
 -- ---- their retrievals and deletions
 
-of_first : (front behind : List Task) (task : Task) (commands : List Command) → IsPlain task
+of_first : (front behind : List Task) (task : Task) (commands : List Command) → IsTaskOfPlan task
     → AllByRecursion (IsOfTask (front ++ task ∷ behind)) commands
     → AllByRecursion (IsOfTask (front ++ task ∷ behind)) (commands_in (turns_in task) ++ commands)
 of_first _ behind (says _) _ is later = rw is (tt, rw is at later)
 of_first _ behind _ _ _ later = search rules
 
-pub of_tasks : (front tasks : List Task) → AllByRecursion IsPlain tasks
+pub of_tasks : (front tasks : List Task) → AllByRecursion IsTaskOfPlan tasks
     → AllByRecursion (IsOfTask (front ++ tasks)) (commands_in (flat_map turns_in tasks))
 of_tasks _ [] _ = tt
 of_tasks front (task ∷ tasks) plain =
@@ -557,8 +557,8 @@ module _ (laws : Below) (items : List Item) where
   -- the turns of these tasks were completed, and perhaps that of one more was begun
   after_dones : (dones : List Done) (under : List Task) {begun tail : List Turn} {first there : Place} {link : Link}
       → flat_map turns_in under ≡ begun → (begun ≡ []) ⊎ ((turn : Turn) × (begun ≡ turn ∷ [])) → (under ≡ [] → begun ≡ [])
-      → flat_map (λ (task : Task). found_in task []) under ≡ []
-      → Talked (turns_of dones) (replies_of dones) first there → AllByRecursion IsPlain (tasks_of dones)
+      → flat_map (λ (task : Task). found_for task []) under ≡ []
+      → Talked (turns_of dones) (replies_of dones) first there → AllByRecursion IsTaskOfPlan (tasks_of dones)
       → AllByRecursion IsAnswered dones → Goes begun tail there.link link → Took (course items dones [] under) first tail link
   after_dones dones under {begun} takes one whole none talked plain each goes =
       let all : flat_map turns_in (tasks_of dones ++ under) ≡ turns_of dones ++ begun = simp (flat_map-append, flat_map-map, takes) in
@@ -569,12 +569,12 @@ module _ (laws : Below) (items : List Item) where
 
   -- all that was begun was done
   pub all_done : (dones : List Done) {tail : List Turn} {first there : Place} {link : Link}
-      → Talked (turns_of dones) (replies_of dones) first there → AllByRecursion IsPlain (tasks_of dones)
+      → Talked (turns_of dones) (replies_of dones) first there → AllByRecursion IsTaskOfPlan (tasks_of dones)
       → AllByRecursion IsAnswered dones → Goes [] tail there.link link → Took (course items dones [] []) first tail link
   all_done _ = after_dones _ [] refl (inl refl) (λ _. refl) refl
 
   module _ {target : Target} {tasks : List Task} {old : Scene} {cut : Cut} {new : Scene} (fell : Fell target tasks old cut new)
-      (plain : AllByRecursion IsPlain (tasks_of fell.dones)) (last : Place) (left : TalksTail cut new.place last) where
+      (plain : AllByRecursion IsTaskOfPlan (tasks_of fell.dones)) (last : Place) (left : TalksTail cut new.place last) where
     open fell use {dones, next, later, mid, went}
 
     abbrev ends : List Turn
@@ -589,7 +589,7 @@ module _ (laws : Below) (items : List Item) where
     -- the next turn was begun, and its text isn't stored
     begun_next : {turn : Turn} → turns_in next ≡ turn ∷ [] → Goes (turn ∷ []) ends mid.place.link last.link → TookThese []
     begun_next {turn} takes = after_dones _ _ (append-nil (turns_in next) ∙ takes) (inr (turn, refl))
-        (λ none. absurd cc) (append-nil (found_in next []) ∙ nothing_found next) went.talked plain went.each
+        (λ none. absurd cc) (append-nil (found_for next []) ∙ nothing_found next) went.talked plain went.each
 
     -- the text was read to its end, and it isn't in the report
     with_spare : {number : ℕ} {uid : List ℕ} {reply : WholeReply} {there : Place} → next ≡ stores number uid
@@ -639,19 +639,19 @@ module _ (laws : Below) (items : List Item) where
 
     -- the text was stored, and its id wasn't saved
     ahead_unsaved : {to : Target} {number : ℕ} {uid : List ℕ} {reply : WholeReply} → cut.rest ≡ None
-        → next ≡ stores number uid → Talked (retr number ∷ []) (reply ∷ []) mid.place new.place → IsPlain next
+        → next ≡ stores number uid → Talked (retr number ∷ []) (reply ∷ []) mid.place new.place → IsTaskOfPlan next
         → new.lines ≡ mid.lines ++ delivered number reply ∷ [] → Comes to (course items (dones ++ stored_done number uid reply ∷ []) [] [])
     ahead_unsaved {number = number} {uid} {reply} none is fetched small told =
         let one = stored_done number uid reply in
         ahead_cut later (all_done (dones ++ one ∷ []) {there = new.place}
         (rw (flat_map-append (λ (d : Done). turns_in d.task) dones (one ∷ []), flat_map-append (λ (d : Done). d.replies) dones (one ∷ []))
         (laws.joins.on (turns_of dones) (retr number ∷ []) (replies_of dones) (reply ∷ []) old.place _ _ went.talked fetched))
-        (rw (map-append task_in dones (one ∷ [])) (all_append IsPlain (tasks_of dones) (stores number uid ∷ [])
+        (rw (map-append task_in dones (one ∷ [])) (all_append IsTaskOfPlan (tasks_of dones) (stores number uid ∷ [])
         plain (rw is at small, tt)))
         (all_append IsAnswered dones (one ∷ []) went.each (fetched.good, tt)) (goes_tail (tailed cut new.place last none left)))
         (begun ∙ rw is (simp (map-append, append-nil))) (told ∙ rw went.lines (simp (flat_map-append, append_assoc))) tt
 
-    pub ahead_stopped : (to : Target) → IsPlain next → (stops : Stops to next mid cut new)
+    pub ahead_stopped : (to : Target) → IsTaskOfPlan next → (stops : Stops to next mid cut new)
         → Comes to (course_stopped to items dones next mid new cut stops)
     ahead_stopped _ small (inl broken) = passed (begun_next broken.takes
         (rw broken.broke.1 (goes_broke broken.turn mid.place new.place last broken.broke.0 broken.broke.2

@@ -156,7 +156,7 @@ pub fn taken_stays_away<W: Wire, D: MaildirDisk, F: FlatFile>()
 }
 
 /// If no reader takes anything away, nothing counts as taken away.
-#[tactic(auto, using(crate::proofs::Calls::none_taken))]
+#[tactic(auto, using(crate::proofs::Calls::nothing_taken))]
 pub fn none_taken()
     ensures { NoneTaken }
 {}

@@ -27,7 +27,7 @@ use Rattle.session_parts.specs.{Session.AccountFiles, declared.report.{Outcome.T
 use Rattle.fetch_runs.{
   specs.{Accounts.listing_of, Below.Below, Conversations.{SpeaksByPlan, asked_if, plan_commands, step_commands}},
   specs.Sessions.{AreGood, IsGoodReply, IsListed},
-  proofs.{Listed.{granted, listing_is_maildrop, walk}, Talk.no_body, Turns.replies_read},
+  proofs.{Listed.{granted, listing_is_maildrop, walk}, Talk.no_greeting_body, Turns.replies_read},
 }
 
 -- ---- the marks after commands that were granted
@@ -180,7 +180,7 @@ module _ {settings : Settings} {account : List ℕ} {now : ℕ} {before : Accoun
       let replies = user ∷ pass ∷ stat ∷ uidl ∷ list ∷ more in
       let bytes = flat_map reply_bytes replies in
       let none : (ended hello.first ++ body_bytes hello.body) ++ (bytes ++ said.said.is.rest)
-      ≡ ended hello.first ++ (bytes ++ said.said.is.rest) = rw (no_body hello.body good.0.body)
+      ≡ ended hello.first ++ (bytes ++ said.said.is.rest) = rw (no_greeting_body hello.body good.0.body)
       (ap (λ (l : List ℕ). l ++ (bytes ++ said.said.is.rest)) (append-nil (ended hello.first))) in
       record {
         asked = asked;
