@@ -41,7 +41,7 @@ use Rattle.session_parts.{
 }
 use Rattle.fetch_runs.proofs.{Lists.all_front, Talk.{few_items, replied, said_opening}, Turns.{CanBeSaid, plain_ahead, said_tasks}}
 use Rattle.local_fetch.{
-  proofs.{ReplyLemmas.{AreNumbered, IsSaid, first_of, plain}, RunLemmas.{Fresh, IsPlan, Opened, all_replied, plan_front}},
+  proofs.{ReplyLemmas.{AreNumbered, IsSaid, first_is_same, plain}, RunLemmas.{Fresh, IsPlan, Opened, all_replied, plan_front}},
   specs.{Good.{GoodFetchesStoreAll, IsWithin, kept_in, target_in}, Local.{loop_to, unused}},
 }
 
@@ -91,7 +91,7 @@ goods n turns replies never = absurd never
 one_count : (reply : WholeReply) (a b : ℕ) → GivesCount reply a → GivesCount reply b → a ≡ b
 one_count reply a b (rest, size, (after, is, rest_is), read) (rest', size', (after', is', rest_is'), read') =
     let same : after ≡ after' = append_cancel_left (indicator Positive) after after' (sym is ∙ is') in
-    first_of a b size size' (sym read ∙ ap number_and_size (rest_is ∙ ap without_space same ∙ sym rest_is') ∙ read')
+    first_is_same a b size size' (sym read ∙ ap number_and_size (rest_is ∙ ap without_space same ∙ sym rest_is') ∙ read')
 
 rows_numbered : {R : Type 0} (IsThisRow : List ℕ → R → Type 0) (number : R → ℕ) (n : ℕ) (reply : WholeReply) (rows : List R)
     → AreNumbered IsThisRow number n reply → HasListing IsThisRow reply rows → IsNumbering n (map number rows)

@@ -90,9 +90,9 @@ missing (m ∷ before) (mark ∷ marks) after left = elim left [
     later [] all = tt
     later (id ∷ ids) ((place, m', is_marked, there, same), all) = ((suc place, m', is_marked, there, same), later ids all)
 
-all_left : (messages : List Message) → AreWithout messages [] messages
-all_left [] = (refl, refl)
-all_left (m ∷ messages) = inl (messages, refl, all_left messages)
+without_none : (messages : List Message) → AreWithout messages [] messages
+without_none [] = (refl, refl)
+without_none (m ∷ messages) = inl (messages, refl, without_none messages)
 
 -- the store is of one of the two kinds
 pub by_kind : {D F Goal : Type 0} (disk : DiskGhosts D) (file : FileGhosts F) (store : Store D F) → (IsSoundMaildir disk store → Goal)
@@ -117,7 +117,7 @@ module _ {M : Type 0} (sound : M → Type 0) (mail : M → DropMail) (honesty : 
           vanished = [];
           served = record { marks = all.0; honest = all.1; marked = tt };
           quits = inl refl;
-          left = rw (all.2.before_quit still) (all_left before);
+          left = rw (all.2.before_quit still) (without_none before);
         }
         | inr quits ↦
             let (ids, marked, left) = missing before all.0 (there (mail loop.machine.drop).slots) all.2.left in

@@ -83,9 +83,9 @@ nothing_sent sound mail w = simp append-nil (serves_same sound mail w)
 -- ---- what the code finds
 
 -- the line that was found is the first that waits
-pub line_found : (seen sent line rest : List ℕ) (used : ℕ) → seen ≡ sent → IsLine line
+pub waiting_line_found : (seen sent line rest : List ℕ) (used : ℕ) → seen ≡ sent → IsLine line
     → take (length seen - used) (drop used seen) ≡ line ++ (crlf ++ rest) → HasLine (length (drop used sent)) (drop used sent) (length line)
-line_found seen sent line rest used same is cut = rw (rw (take_rest, same) at cut) (record {
+waiting_line_found seen sent line rest used same is cut = rw (rw (take_rest, same) at cut) (record {
   line = rw take-append_seam is;
   within = omega (arith, length-append line (crlf ++ rest));
   whole = rw (take-append_seam line, drop-append-add line (crlf ++ rest) 2);
@@ -119,7 +119,7 @@ gives all piece rest copied buf given n within is few same =
     )
 
 -- a refused call took the link down and was counted, after these octets were sent
-pub refused : {D : Type 0} {sound : D → Type 0} {mail : D → DropMail} (old : Loop D) {mid new : Loop D} (bytes : List ℕ)
+pub call_refused : {D : Type 0} {sound : D → Type 0} {mail : D → DropMail} (old : Loop D) {mid new : Loop D} (bytes : List ℕ)
     → Serves sound mail (record old {
       link = record old.link { sent = old.link.sent ++ bytes };
       waiting =
@@ -127,7 +127,7 @@ pub refused : {D : Type 0} {sound : D → Type 0} {mail : D → DropMail} (old :
     }) mid → new.link.failures ≡ counted_up mid.link.failures
     → new ≡ record mid { down = true; link = with_failures new.link.failures mid.link } → new.link.failures < greatest_count
     → (mid.link.failures < greatest_count) × Serves sound mail old new × (new.link ≡ record mid.link { failures = mid.link.failures + 1 })
-refused old {mid} {new} bytes p count is below =
+call_refused old {mid} {new} bytes p count is below =
     let next : new.link.failures ≡ mid.link.failures + 1 = grind (arith, nat_tests, count, below) in (
       omega (arith, next, below),
       rw is (serves_sent old bytes true new.link.failures p (λ e. absurd (true≢false e)) (λ _. refl)),

@@ -91,21 +91,21 @@ bytes_are_taken {F} file lost store f byte is_byte may_store no_record may =
     (from, left, account, _, shows, is_left, (byte, ap mail_in is_byte), refl)
 
 -- a file that was appended to and not flushed
-abbrev pub unflushed : Blob
-unflushed = record { content = 65 ∷ []; flushed = []; uncut = 0; is_doubted = false }
+abbrev pub unflushed_blob : Blob
+unflushed_blob = record { content = 65 ∷ []; flushed = []; uncut = 0; is_doubted = false }
 
 abbrev pub folder_with : List ℕ → Directory
-folder_with name = record { can_make = true; entries = entry name unflushed ∷ []; older = [] }
+folder_with name = record { can_make = true; entries = entry name unflushed_blob ∷ []; older = [] }
 
-found : (name : List ℕ) → find name (entry name unflushed ∷ []) ≡ Some unflushed
-found name = find_here name (entry name unflushed) [] ((bytes_eq-Decides name name).1 refl)
+finds_unflushed : (name : List ℕ) → find name (entry name unflushed_blob ∷ []) ≡ Some unflushed_blob
+finds_unflushed name = find_here name (entry name unflushed_blob) [] ((bytes_eq-Decides name name).1 refl)
 
 pub seen_unflushed : (name : List ℕ) → content_at (folder_with name) name ≡ Some (65 ∷ [])
-seen_unflushed name = ap (option_map content_in) (found name)
+seen_unflushed name = ap (option_map content_in) (finds_unflushed name)
 
 pub may_be_empty : (name : List ℕ) → MayLeave (disk_at (folder_with name) name) (Some [])
 may_be_empty name = may_now (disk_at (folder_with name) name) (Some [])
-    (subst (λ now. IsLeftOf now (Some [])) (sym (found name)) (inl refl))
+    (subst (λ now. IsLeftOf now (Some [])) (sym (finds_unflushed name)) (inl refl))
 
 -- a folder without files
 abbrev pub empty_folder : Directory

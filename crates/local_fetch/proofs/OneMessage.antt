@@ -26,15 +26,15 @@ use Rattle.local_fetch.specs.{
   Good.{GoodFetchesStoreAll, OneIsStored, server_with},
 }
 
-some_of : (count : ℕ) (message : Message) → (count == 0) ≡ false → take count (message ∷ []) ≡ message ∷ []
-some_of zero message never = absurd (true≢false never)
-some_of (suc zero) message some = refl
-some_of (suc (suc count)) message some = refl
+one_is_taken : (count : ℕ) (message : Message) → (count == 0) ≡ false → take count (message ∷ []) ≡ message ∷ []
+one_is_taken zero message never = absurd (true≢false never)
+one_is_taken (suc zero) message some = refl
+one_is_taken (suc (suc count)) message some = refl
 
 one_of : (count : ℕ) (message : Message) → take (if count == 0 then 1 else count) (message ∷ []) ≡ message ∷ []
 one_of count message = elim (cases_Bool (count == 0)) [
   | inl none ↦ rw none refl
-  | inr some ↦ rw some (some_of count message some)
+  | inr some ↦ rw some (one_is_taken count message some)
 ]
 
 -- nothing is known of it, its name is free, and it is within the limit

@@ -129,8 +129,8 @@ numbering ms = record {
       (omega (arith, here), omega (arith, here, inside, numbers_count 1 ms));
 }
 
-pub first_of : {A B E : Type 0} (a c : A) (b d : B) → ◌≡◌ {A = Result (A × B) E} (Ok (a, b)) (Ok (c, d)) → a ≡ c
-first_of {A} {B} a c b d e = let same : (a, b) ≡ (c, d) = cc in ap (λ (x : A × B). x.0) same
+pub first_is_same : {A B E : Type 0} (a c : A) (b d : B) → ◌≡◌ {A = Result (A × B) E} (Ok (a, b)) (Ok (c, d)) → a ≡ c
+first_is_same {A} {B} a c b d e = let same : (a, b) ≡ (c, d) = cc in ap (λ (x : A × B). x.0) same
 
 -- the lines of unmarked rows
 record Lines {R : Type 0} (turn : Turn) (IsThisRow : List ℕ → R → Type 0) (number : R → ℕ) (k : ℕ) (ms : List Message)
@@ -209,7 +209,7 @@ uid_good k m few is =
       row.0.0,
       omega (arith, row_length k m.uid few (short_id m.uid is.is_message.legal)),
       subst (λ r. IsOk r) (sym read) refl,
-      λ r are. first_of r.number k r.uid m.uid (sym are ∙ read),
+      λ r are. first_is_same r.number k r.uid m.uid (sym are ∙ read),
     )
 
 scan_good : IsGoodLine list IsScanLine (λ (row : ScanRow). row.number) scan_line
@@ -219,7 +219,7 @@ scan_good k m few is =
       row.0.0,
       omega (arith, row_length k (decimal m.size) few (size_length m.size (omega (arith, is.within)))),
       subst (λ r. IsOk r) (sym read) refl,
-      λ r are. first_of r.number k r.size m.size (sym are ∙ read),
+      λ r are. first_is_same r.number k r.size m.size (sym are ∙ read),
     )
 
 pub uids_listed : (answer : List ℕ) (ms : List Message) → AllByRecursion IsServed ms → length ms ≤ 100000

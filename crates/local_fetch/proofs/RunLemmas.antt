@@ -124,9 +124,9 @@ pub record IsOpen (ms : List Message) (k : ℕ) (state : State) (mail : DropMail
   unmarked : (i : ℕ) → k ≤ i + 1 → i < length ms → IsAt ms rows i
 
 -- an answer that changes nothing
-still_open : (ms : List Message) (k number : ℕ) (state next : State) (old new : DropMail) (opened : IsOpen ms k state old) → k ≤ number
+open_unchanged : (ms : List Message) (k number : ℕ) (state next : State) (old new : DropMail) (opened : IsOpen ms k state old) → k ≤ number
     → next ≡ Transaction opened.rows → new.slots ≡ old.slots → IsOpen ms number next new
-still_open ms k number state next old new opened less next_is same = record {
+open_unchanged ms k number state next old new opened less next_is same = record {
   rows = opened.rows;
   is = next_is;
   slots = same ∙ opened.slots;
@@ -165,7 +165,7 @@ module _ {D : Type 0} (sound : D → Type 0) (mail : D → DropMail) (name word 
   by_rows : (k : ℕ) (old next : Machine D) (opened : IsOpen ms k old.state (mail old.drop)) → next.state ≡ Transaction opened.rows
       → next.drop ≡ old.drop → IsOpen ms k next.state (mail next.drop)
   by_rows k old next opened state same =
-      still_open ms k k old.state next.state (mail old.drop) (mail next.drop) opened (omega arith) state
+      open_unchanged ms k k old.state next.state (mail old.drop) (mail next.drop) opened (omega arith) state
       (ap (λ (d : D). (mail d).slots) same)
 
   step : (stage : Stage) (c : Command) (old next : Machine D) (answer : List ℕ) → Stands stage old → MayCome name word n stage c
@@ -230,7 +230,7 @@ module _ {D : Type 0} (sound : D → Type 0) (mail : D → DropMail) (name word 
             let found = rw opened.slots at there_is in
             let which : message ≡ place.message = cc (found, place.slot) in (
               given n number place.message answer text is (rw which at body) place.served.within place.within,
-              still_open ms k number old.state next.state (mail old.drop) (mail next.drop) opened later does.0
+              open_unchanged ms k number old.state next.state (mail old.drop) (mail next.drop) opened later does.0
                   (ap (λ (m : DropMail). m.slots) same),
             )
       ]

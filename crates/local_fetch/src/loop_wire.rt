@@ -91,7 +91,7 @@ impl<D: Maildrop> LoopWire<D> {
     }
 
     /// The length of the first whole line that waits, without its CR LF, while the server is open.
-    #[tactic(auto, using(crate::proofs::LoopLemmas::line_found))]
+    #[tactic(auto, using(crate::proofs::LoopLemmas::waiting_line_found))]
     fn next_line(&self) -> Option<usize>
         ensures some { IfSome result (λ n. (is_open self.now.machine.state ≡ true)
             × HasLine (length self.now.waiting) self.now.waiting n) }

@@ -5,18 +5,18 @@ use Rattle.std.proofs.{
 use Rattle.pop3_server.specs.ServerMachine.{greeting_line}
 use Rattle.local_fetch.{
   specs.LoopLaws.{same_refl, serves_none},
-  proofs.{LoopLemmas.{nothing_sent, Gives, gives, refused}, loop_wire.LoopWireWire.recv.Goals.After-copy_from_slice},
+  proofs.{LoopLemmas.{nothing_sent, Gives, gives, call_refused}, loop_wire.LoopWireWire.recv.Goals.After-copy_from_slice},
 }
 use Rattle.local_fetch.proofs.loop_wire.LoopWireWire.recv.Goals as goal
 
 pub returns-then-self-clause-got : goal.returns-then-self-clause-got
 returns-then-self-clause-got g c =
-    refused c.args.self.now [] (nothing_sent g.D.Maildrop.sound g.D.Maildrop.mail c.args.self.now)
+    call_refused c.args.self.now [] (nothing_sent g.D.Maildrop.sound g.D.Maildrop.mail c.args.self.now)
     c.refuse.ensures.counted c.refuse.ensures.same
 
-given : (g : _) (c : After-copy_from_slice g) → Gives (greeting_line ++ c.self.inside.answers.items)
+octets_given : (g : _) (c : After-copy_from_slice g) → Gives (greeting_line ++ c.self.inside.answers.items)
     (c.copy_from_slice.new.self ++ drop c.min-n.result c.args.buf.now) c.self.inside.given c.min-n.result
-given g c =
+octets_given g c =
     let few : c.min-n.result ≤ length c.piece-piece.result.now = omega (arith, c.min-n.ensures) in
     gives (greeting_line ++ c.self.inside.answers.items) c.piece-piece.result.now c.piece-piece.ensures.begins.0
     c.copy_from_slice.new.self c.args.buf.now c.self.inside.given c.min-n.result c.self.invariant.1
@@ -28,7 +28,7 @@ invariant_of-self g c =
     let n = c.min-n.result in
     let all = greeting_line ++ r.answers.items in (
       c.self.invariant.0,
-      (given g (goal.at.invariant_of-self g c).After-copy_from_slice).0,
+      (octets_given g (goal.at.invariant_of-self g c).After-copy_from_slice).0,
       c.self.invariant.2,
       λ over.
           let none : drop r.given all ≡ [] = elim (or_cases _ _ over) [
@@ -46,8 +46,8 @@ returns-clause-got g c =
       below,
       serves_none _ _ _ _ (same_refl _ _ _) refl refl refl
           (λ _. take-append-drop (r.given + c.min-n.result) (greeting_line ++ r.answers.items)) (λ _. refl) (λ e. e),
-      rw ((given g (goal.at.returns-clause-got g c).After-copy_from_slice).1),
+      rw ((octets_given g (goal.at.returns-clause-got g c).After-copy_from_slice).1),
     ))
 
 pub returns-clause-gives : goal.returns-clause-gives
-returns-clause-gives g c = rw (← c.self.view_is) (given g (goal.at.returns-clause-gives g c).After-copy_from_slice).2
+returns-clause-gives g c = rw (← c.self.view_is) (octets_given g (goal.at.returns-clause-gives g c).After-copy_from_slice).2
