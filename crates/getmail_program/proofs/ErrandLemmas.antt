@@ -12,9 +12,9 @@ use Rattle.getmail_setup.specs.declared.{errors.Errors.Errors, output.Output.Out
 use Rattle.getmail_program.specs.{Fetching.FetchesInto, declared.{ending.Fetched.Fetched, told.Told.Told}}
 
 -- an account is made of its parts
-pub parts_of : {D F : Type 0} (new : Holding D F) (settings : Settings) (store : Store D F) (file : F) → settings ≡ new.settings
+pub made_of_parts : {D F : Type 0} (new : Holding D F) (settings : Settings) (store : Store D F) (file : F) → settings ≡ new.settings
     → store ≡ new.store → file ≡ new.file → new ≡ record { settings = settings; store = store; file = file }
-parts_of {D} {F} new settings store file is_settings is_store is_file =
+made_of_parts {D} {F} new settings store file is_settings is_store is_file =
     let holding : Settings → Store D F → F → Holding D F =
     λ settings store file. record { settings = settings; store = store; file = file } in
     sym (ap (λ (s : Settings). holding s store file) is_settings

@@ -13,6 +13,6 @@ front_some text n front is =
     let same : n - 0 ≡ n = omega arith in
     inl (is ∙ ap (λ (count : ℕ). take count text) same)
 
-pub front_none : (text : List ℕ) (n : ℕ) → IsUtf8 text → (0 ≤ n → IsCharBoundary text 0 → IsCharBoundary text n → ⊥)
+pub text_is_front : (text : List ℕ) (n : ℕ) → IsUtf8 text → (0 ≤ n → IsCharBoundary text 0 → IsCharBoundary text n → ⊥)
     → IsTextFront text n text
-front_none text n is none = inr (λ here. none (omega arith) (IsCharBoundary-start text is) here, refl)
+text_is_front text n is none = inr (λ here. none (omega arith) (IsCharBoundary-start text is) here, refl)

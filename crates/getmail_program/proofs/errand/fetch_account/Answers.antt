@@ -1,4 +1,4 @@
-use Rattle.getmail_program.proofs.ErrandLemmas.{account_of, parts_of}
+use Rattle.getmail_program.proofs.ErrandLemmas.{account_of, made_of_parts}
 use Rattle.getmail_program.proofs.errand.fetch_account.Goals as goal
 
 pub returns-clause-fetched : goal.returns-clause-fetched
@@ -7,5 +7,5 @@ returns-clause-fetched g c =
     let parts = c.into_parts-settings.ensures.parts in (
       told,
       account_of _ _ _ _ _ _ _ _ _ _ _ _ _ _ _ _ _ _ _ _ _ _ c.new-account.ensures
-          (parts_of _ _ _ _ parts.0 parts.1 parts.2) (record { holds = holds; tells = tells }),
+          (made_of_parts _ _ _ _ parts.0 parts.1 parts.2) (record { holds = holds; tells = tells }),
     )
