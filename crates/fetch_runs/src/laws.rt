@@ -252,7 +252,7 @@ pub fn durable_mboxes_are_safe<F: FlatFile>()
 }
 
 /// With an mboxrd file: it may begin with any account that has no open intent, also after others wrote.
-#[tactic(auto, using(crate::proofs::MboxPromised::starts))]
+#[tactic(auto, using(crate::proofs::MboxPromised::mbox_begins))]
 pub fn mbox_starts()
     ensures { MboxStarts }
 {}
