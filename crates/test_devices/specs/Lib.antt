@@ -4,5 +4,6 @@ pub mod Losses
 pub mod MemoryCalls
 pub mod MemoryFolder
 pub mod MemoryFolders
+pub mod MemoryShared
 pub mod Script
 pub mod StoreFuse

@@ -31,7 +31,7 @@ pub enum CallFuse {
 
 impl CallFuse {
     /// Why a call is refused, if it is.
-    fn burn(&mut self) -> Option<ErrorKind>
+    pub(crate) fn burn(&mut self) -> Option<ErrorKind>
         ensures { IfSome result IsRefusalKind }
     {
         match *self {
@@ -79,10 +79,10 @@ pub struct MemoryCalls {
 /// A file of it that was made.
 #[derive(Drop)]
 pub struct MemoryMade {
-    alloc: Global,
-    path: String,
-    file: MemoryNewFile,
-    fuse: CallFuse,
+    pub(crate) alloc: Global,
+    pub(crate) path: String,
+    pub(crate) file: MemoryNewFile,
+    pub(crate) fuse: CallFuse,
 }
 
 /// A file of it that was opened, or its folder.
@@ -96,14 +96,14 @@ pub struct MemoryOpened {
 }
 
 /// A refusal of this kind.
-fn refusal(alloc: Global, path: &str, kind: ErrorKind) -> Denial
+pub(crate) fn refusal(alloc: Global, path: &str, kind: ErrorKind) -> Denial
     ensures { error_kind result.error ≡ kind }
 {
     Denial::of(alloc, path, io::Error::from(kind))
 }
 
 /// What the system tells of a file or folder.
-fn stat_of(kind: FileKind, len: u64, inode: u64) -> FileStat
+pub(crate) fn stat_of(kind: FileKind, len: u64, inode: u64) -> FileStat
     ensures { (result.kind ≡ kind) × (result.len ≡ len) }
 {
     FileStat {
@@ -123,7 +123,7 @@ impl MemoryMade {
     ghost use Rattle.test_devices.specs.MemoryFolder.{made_of};
 
     /// Another file with the same bytes.
-    fn copy(&self) -> Result<MemoryNewFile, Denial>
+    pub(crate) fn copy(&self) -> Result<MemoryNewFile, Denial>
         ensures { IfOk result (λ file. made_of file ≡ made_of self.now.file) }
     {
         Ok(MemoryNewFile {

@@ -1,19 +1,21 @@
 //! The folders of a Maildir in memory.
 
 ghost use Rattle.std.specs.{
-  Prelude.{◌≡◌, ◌↔◌, ◌≤◌, ◌||◌, ◌++◌, [], ◌∷◌, Contains, HoldsAt, IfNone, IfOk, IfSome, IsTrue, OnErr, OnOk, false},
-  Prelude.{if◌then◌else◌, length, true, map, option_map, string_bytes},
+  Prelude.{◌≡◌, ◌↔◌, ◌≤◌, ◌||◌, ◌++◌, [], ◌∷◌, Contains, HoldsAt, IfNone, IfOk, IfSome, IsTrue, Ok, OnErr},
+  Prelude.{OnOk, false, if◌then◌else◌, length, true, map, option_map, string_bytes},
   List.filter,
 };
-ghost use Rattle.mail_terms.specs.MaildirName.{base};
-ghost use Rattle.mail_store.specs.{Maildir.all_there, Loss.is_among};
+ghost use Rattle.mail_terms.specs.{MaildirName.base, UniqueId.has_id};
+ghost use Rattle.mail_store.specs.{Maildir.{all_there, is_there}, Loss.is_among};
 ghost use Rattle.folder_store.specs.{
-  MailCalls.{IsFree, ShowsOdd, entry_flushed_by, file_names, named_by, names_sought, names_told, odd_names},
-  MailCalls.without_taken,
-  MailFolders.{Moved, MovesFile, closed_in, entries_in, is_in, is_taken, is_told, name_at, touches},
+  FileFolder.empty_made,
+  MailCalls.{IsFree, ListsIn, ShowsOdd, entry_flushed_by, file_names, files_flushed, named_by, names_flushed_in},
+  MailCalls.{names_sought, names_told, odd_names, put_as, without_taken},
+  MailFolders.{Moved, MovesFile, closed_in, entries_in, is_in, is_taken, is_told, name_at, odd_names_in, rests_in},
+  MailFolders.{touches, unopened_in},
   MailPower.{EntriesLeftAs, LosesMail},
 };
-ghost use Rattle.test_devices.specs.MemoryFolders.{list_of, stored_file};
+ghost use Rattle.test_devices.specs.{MemoryFolder.made_of, MemoryFolders.{list_of, stored_file}};
 
 use crate::new_file::MemoryNewFile;
 use folder_store::{FolderMaildir, FoundNames, MailFolders, Sought, readers_move};
@@ -162,6 +164,7 @@ fn named_files(
 /// Whether one of some texts is this one.
 fn is_one_of(texts: &[String], text: &str) -> bool
     ensures is { result ≡ is_among texts.now text.now }
+    ensures id { result ≡ has_id (map string_bytes texts.now) text.now }
     ensures has { IsTrue result ↔ Contains (map string_bytes texts.now) text.now }
 {
     texts.iter().any(|other| other.as_str() == text)
@@ -510,7 +513,7 @@ impl MemoryFolders {
     }
 
     // What the reader does before a call.
-    fn let_reader_move(&mut self)
+    pub(crate) fn let_reader_move(&mut self)
         ensures { Moved self.old self.new }
     {
         readers_move();
@@ -563,7 +566,7 @@ impl MemoryFolders {
     }
 
     // A copy of a name, if nothing in `new` has it.
-    fn free_name(&self, name: &str) -> Result<Option<String>, AllocError>
+    pub(crate) fn free_name(&self, name: &str) -> Result<Option<String>, AllocError>
         ensures { IfOk result (λ free. IfSome free (λ copy.
             (string_bytes copy ≡ name.now) × IsFree name.now self.now)) }
     {
@@ -572,6 +575,116 @@ impl MemoryFolders {
             return Ok(None);
         }
         Ok(Some(String::from_str(self.alloc, name)?))
+    }
+
+    // Whether a folder, which is there, has rested since it was last listed.
+    pub(crate) fn has_rested(&self, folder: Folder) -> bool
+        ensures rests { result ≡ rests_in folder self.now }
+        ensures there { is_there self.now.there folder ≡ true }
+    {
+        match folder {
+            Folder::New => self.new_rests,
+            Folder::Cur => self.cur_rests,
+        }
+    }
+
+    // The names of a folder that are sought. If memory runs out, nothing changes.
+    pub(crate) fn list_now(
+        &mut self,
+        folder: Folder,
+        sought: Sought<'_>,
+    ) -> Result<Vec<String>, AllocError>
+        ensures ok { IfOk result (λ names. ListsIn folder sought.entry (Ok names) self.old self.new) }
+        ensures err { OnErr result (self.new ≡ self.old) }
+    {
+        let (names, odd) = self.listed(folder, sought)?;
+        self.forget_taken()?;
+        match folder {
+            Folder::New => {
+                self.new_rests = true;
+                self.odd_new = odd;
+            }
+            Folder::Cur => {
+                self.cur_rests = true;
+                self.odd_cur = odd;
+            }
+        }
+        Ok(names)
+    }
+
+    // Whether a name was seen in a folder's last listing as that of what can't be opened.
+    pub(crate) fn is_odd(&self, folder: Folder, name: &str) -> bool
+        ensures odd { result ≡ has_id (odd_names_in folder self.now) name.now }
+        ensures unopened { result ≡ has_id (unopened_in folder self.now) name.now }
+    {
+        match folder {
+            Folder::New => is_one_of(&self.odd_new, name),
+            Folder::Cur => is_one_of(&self.odd_cur, name),
+        }
+    }
+
+    // Flushes the files with these stems. If memory runs out, nothing changes.
+    pub(crate) fn flush_now(&mut self, stems: &[String]) -> Result<(), AllocError>
+        ensures ok { OnOk result (self.new ≡ files_flushed stems.now self.old) }
+        ensures err { OnErr result (self.new ≡ self.old) }
+    {
+        self.files = flushed_files(self.alloc, &self.files, stems)?;
+        Ok(())
+    }
+
+    // A file without bytes and without a name.
+    pub(crate) fn make_now(&self) -> MemoryNewFile
+        ensures made { made_of result ≡ empty_made }
+        ensures there { self.now.there.tmp ≡ true }
+    {
+        MemoryNewFile::new(self.alloc)
+    }
+
+    // Puts a file that was made into `new`. If memory runs out, nothing changes.
+    pub(crate) fn put_now(&mut self, file: MemoryNewFile, name: String) -> Result<(), AllocError>
+        ensures ok { OnOk result (self.new ≡ record self.old {
+          entries = self.old.entries ++ put_as (string_bytes name) (made_of file) ∷ [];
+          new_rests = false;
+        }) }
+        ensures err { OnErr result (self.new ≡ self.old) }
+    {
+        self.files.push(StoredMail {
+            is_new: true,
+            name,
+            content: file.content,
+            is_flushed: file.is_flushed,
+            is_named: false,
+            left_new: false,
+            left_cur: false,
+            is_gone: false,
+        })?;
+        self.new_rests = false;
+        Ok(())
+    }
+
+    // Flushes the names of a folder. If memory runs out, nothing changes.
+    pub(crate) fn flush_names_now(&mut self, folder: Folder) -> Result<(), AllocError>
+        ensures ok { OnOk result (self.new ≡ names_flushed_in folder self.old) }
+        ensures err { OnErr result (self.new ≡ self.old) }
+        ensures there { is_there self.old.there folder ≡ true }
+    {
+        self.files = named_files(self.alloc, &self.files, folder)?;
+        Ok(())
+    }
+
+    // How many octets the file with a name in `new` has. None if what can't be opened has it.
+    pub(crate) fn size_in_new(&self, name: &str) -> Option<u64> {
+        for file in &self.files {
+            if file.is_told(Folder::New) && file.name.as_str() == name {
+                return Some(file.content.len() as u64);
+            }
+        }
+        None
+    }
+
+    // Whether what can't be opened has a name.
+    pub(crate) fn is_obstructed(&self, name: &str) -> bool {
+        is_one_of(&self.obstacles, name)
     }
 
     // Leaves out the files that the reader took away. If memory runs out, nothing changes.
@@ -601,23 +714,10 @@ impl MailFolders for MemoryFolders {
 
     fn list(&mut self, folder: Folder, sought: Sought<'_>) -> Result<Vec<String>, StoreFault> {
         self.let_reader_move();
-        let Ok((names, odd)) = self.listed(folder, sought) else {
-            return Err(StoreFault::Refused);
-        };
-        if let Err(_) = self.forget_taken() {
-            return Err(StoreFault::Refused);
+        match self.list_now(folder, sought) {
+            Ok(names) => Ok(names),
+            Err(_) => Err(StoreFault::Refused),
         }
-        match folder {
-            Folder::New => {
-                self.new_rests = true;
-                self.odd_new = odd;
-            }
-            Folder::Cur => {
-                self.cur_rests = true;
-                self.odd_cur = odd;
-            }
-        }
-        Ok(names)
     }
 
     fn files_among(
@@ -634,26 +734,20 @@ impl MailFolders for MemoryFolders {
 
     fn rests(&mut self, folder: Folder, _times: u32) -> Result<bool, StoreFault> {
         self.let_reader_move();
-        match folder {
-            Folder::New => Ok(self.new_rests),
-            Folder::Cur => Ok(self.cur_rests),
-        }
+        Ok(self.has_rested(folder))
     }
 
     fn flush_files(&mut self, stems: &[String], _may_miss: bool) -> Result<bool, StoreFault> {
         self.let_reader_move();
-        match flushed_files(self.alloc, &self.files, stems) {
-            Ok(files) => {
-                self.files = files;
-                Ok(true)
-            }
+        match self.flush_now(stems) {
+            Ok(()) => Ok(true),
             Err(_) => Err(StoreFault::Refused),
         }
     }
 
     fn make(&mut self, _name: &str) -> Result<MemoryNewFile, StoreFault> {
         self.let_reader_move();
-        Ok(MemoryNewFile::new(self.alloc))
+        Ok(self.make_now())
     }
 
     fn put(&mut self, file: MemoryNewFile, name: &str) -> Result<(), StoreFault> {
@@ -661,21 +755,10 @@ impl MailFolders for MemoryFolders {
         let Ok(Some(name)) = self.free_name(name) else {
             return Err(StoreFault::Refused);
         };
-        let file = StoredMail {
-            is_new: true,
-            name,
-            content: file.content,
-            is_flushed: file.is_flushed,
-            is_named: false,
-            left_new: false,
-            left_cur: false,
-            is_gone: false,
-        };
-        if self.files.push(file).is_err() {
-            return Err(StoreFault::Refused);
+        match self.put_now(file, name) {
+            Ok(()) => Ok(()),
+            Err(_) => Err(StoreFault::Refused),
         }
-        self.new_rests = false;
-        Ok(())
     }
 
     fn discard(&mut self, _file: MemoryNewFile) {
@@ -684,11 +767,8 @@ impl MailFolders for MemoryFolders {
 
     fn flush_names(&mut self, folder: Folder) -> Result<bool, StoreFault> {
         self.let_reader_move();
-        match named_files(self.alloc, &self.files, folder) {
-            Ok(files) => {
-                self.files = files;
-                Ok(true)
-            }
+        match self.flush_names_now(folder) {
+            Ok(()) => Ok(true),
             Err(_) => Err(StoreFault::Refused),
         }
     }
