@@ -7,7 +7,8 @@
    a look at a file of a folder `new` and `record`, one at a file `seen-..`, which fail by a fault of the device, the
    first where files have no second name, so that a name is looked up; `told`, a look at a file `told-..`, for want
    of memory; `folder-flush` and `folder-flush-unsupported`, the flush of a folder, with REFUSED_FOLDER only of that
-   one, and `sparing-rename`, a rename that spares what is there, as on a file system that has none; `lock-none-left`
+   one, and `writer-flush`, that of the file REFUSED_FILE by a handle that may write, as a write that failed is told to
+   no other; `sparing-rename`, a rename that spares what is there, as on a file system that has none; `lock-none-left`
    and `lock-unsupported`, the lock of a file; `output`, every second write to standard output, as a signal interrupts
    one. With REFUSED_WHEN none is refused before the file of that path is there. */
 
@@ -75,6 +76,9 @@ int fsync(int descriptor)
         && S_ISDIR(found.st_mode)
         && (!getenv("REFUSED_FOLDER") || is_named(path_of(descriptor, path), "REFUSED_FOLDER")))
         return refused(refuses("folder-flush") ? EINVAL : EOPNOTSUPP);
+    if (refuses("writer-flush") && (fcntl(descriptor, F_GETFL) & O_ACCMODE) != O_RDONLY
+        && is_named(path_of(descriptor, path), "REFUSED_FILE"))
+        return refused(EIO);
     return next(descriptor);
 }
 

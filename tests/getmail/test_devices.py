@@ -83,6 +83,18 @@ class FullDisk(Devices):
                 self.check_completed(longer)
 
 
+class FailedWrites(Devices):
+    def test_a_fault_that_is_told_to_the_writing_handle_alone(self):
+        """The record is flushed by the handle that wrote to it: by a new one no fault would be told."""
+        self.list_only()
+        with preload.library("refuse_call") as refusing:
+            run, commands = self.session("-d", LD_PRELOAD=str(refusing), REFUSED_CALL="writer-flush",
+                                         REFUSED_FILE=str(self.account.record))
+        self.assertEqual((run, commands), (RECORD_REFUSED, ["RETR 1", "RSET", "QUIT"]))
+        self.assertEqual(self.server.messages, THREE)
+        self.check_completed()
+
+
 class OtherHands(Devices):
     def test_a_record_that_is_taken_away_meanwhile(self):
         """It isn't made anew from one group, which would be a record of this message alone."""
