@@ -123,12 +123,12 @@ fields (RowLine row) = (row.uid, decimal row.first_seen ∷ (digit row.delivered
 fields (GroupLine n) = (43 ∷ [], decimal n ∷ [])
 fields (IntentLine i) = (33 ∷ [], i.uid ∷ decimal i.start ∷ decimal i.len ∷ [])
 
-abbrev joined : List ℕ → List (List ℕ) → List ℕ
-joined field [] = field
-joined field (next ∷ more) = field ++ 32 ∷ joined next more
+abbrev spaced : List ℕ → List (List ℕ) → List ℕ
+spaced field [] = field
+spaced field (next ∷ more) = field ++ 32 ∷ spaced next more
 
 abbrev pub body : Line → List ℕ
-body line = joined (fields line).0 (fields line).1
+body line = spaced (fields line).0 (fields line).1
 
 -- no byte of a field is a space or below
 clean_fields : (line : Line) → IsRecordLine line → (s : ℕ) → s ≤ 32 → AllByRecursion (HasNo s) ((fields line).0 ∷ (fields line).1)
@@ -153,7 +153,7 @@ clean_fields (IntentLine i) is s low = (
 )
 
 clean_joined : (s : ℕ) → s < 32 → (field : List ℕ) (more : List (List ℕ)) → AllByRecursion (HasNo s) (field ∷ more)
-    → HasNo s (joined field more)
+    → HasNo s (spaced field more)
 clean_joined s _ _ [] each = each.0
 clean_joined s low [] (next ∷ more) each = ((λ same. omega (arith, low, same)), clean_joined s low next more each.1)
 clean_joined s low (_ ∷ field) (next ∷ more) each = (each.0.0, clean_joined s low field (next ∷ more) (each.0.1, each.1))
@@ -167,7 +167,7 @@ body_text (GroupLine n) _ = group_split n _
 body_text (IntentLine i) behind = intent_split i _ ∙ sym (simp append_assoc)
 
 same_fields : (a b : List ℕ) (fs gs : List (List ℕ)) → AllByRecursion (HasNo 32) (a ∷ fs)
-    → AllByRecursion (HasNo 32) (b ∷ gs) → joined a fs ≡ joined b gs → (a ≡ b) × (fs ≡ gs)
+    → AllByRecursion (HasNo 32) (b ∷ gs) → spaced a fs ≡ spaced b gs → (a ≡ b) × (fs ≡ gs)
 same_fields a b [] [] p q e = (e, refl)
 same_fields a b [] (d ∷ _) p q e = absurd (uncut 32 b _ (subst (HasNo 32) e p.0))
 same_fields a b (c ∷ _) [] p q e = absurd (uncut 32 a _ (subst (HasNo 32) (sym e) q.0))

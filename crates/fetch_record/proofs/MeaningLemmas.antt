@@ -65,10 +65,10 @@ same_ends version n j k (Stands progress) (l ∷ ls) (m ∷ ms) r s a b p q e j_
     same_ends version (n + 1) j k (after_line version n progress m) ls ms r s a b p.1 q.1 first.1 (omega (arith, j_is))
     (omega (arith, k_is)) (rw first.0 at x) y
 
-pub same_lines : (v w : Version) (xs ys : List ℕ) → header v ++ xs ≡ header w ++ ys → (v ≡ w) × (xs ≡ ys)
-same_lines One Two _ _ e = absurd (omega (arith, ap (λ l. get_or l 13 0) e))
-same_lines Two One _ _ e = absurd (omega (arith, ap (λ (l : List ℕ). get_or l 13 0) e))
-same_lines v w _ _ e = (refl, cc)
+pub same_header : (v w : Version) (xs ys : List ℕ) → header v ++ xs ≡ header w ++ ys → (v ≡ w) × (xs ≡ ys)
+same_header One Two _ _ e = absurd (omega (arith, ap (λ l. get_or l 13 0) e))
+same_header Two One _ _ e = absurd (omega (arith, ap (λ (l : List ℕ). get_or l 13 0) e))
+same_header v w _ _ e = (refl, cc)
 
 no_header : (version : Version) (xs : List ℕ) → header version ++ xs ≡ [] → ⊥
 no_header One _ e = cc
@@ -76,7 +76,7 @@ no_header Two _ e = cc
 
 by_lines_same : (bytes : List ℕ) (m n : Meaning) → ByLines bytes m → ByLines bytes n → m ≡ n
 by_lines_same _ m n a b =
-    let parts = same_lines _ _ _ _ (sym a.cut.whole ∙ b.cut.whole) in
+    let parts = same_header _ _ _ _ (sym a.cut.whole ∙ b.cut.whole) in
     same_ends _ 0 _ _ _ _ _ _ _ m n (recursion_from_All _ a.lines a.cut.each) (recursion_from_All _ b.lines b.cut.each)
     parts.1 (omega arith) (omega arith) (rw parts.0 at a.ends) b.ends
 
@@ -213,17 +213,17 @@ abbrev IsHeld : Judged → Type 0
 IsHeld (Stands progress) = IntentHasRow (counted progress) (left_open progress)
 IsHeld (Fails _) = Unit {0}
 
-opened : (version : Version) (n : ℕ) (rows : List Row) (before : Option Intent) (intent : Intent) → IsIntent intent
+intent_held : (version : Version) (n : ℕ) (rows : List Row) (before : Option Intent) (intent : Intent) → IsIntent intent
     → IsHeld (after_intent version n rows before intent)
-opened Two n rows None intent is = cond_both (has_row rows intent.uid) _ _ IsHeld (λ has. (is, has)) (λ _. tt)
-opened _ n _ _ _ _ = tt
+intent_held Two n rows None intent is = cond_both (has_row rows intent.uid) _ _ IsHeld (λ has. (is, has)) (λ _. tt)
+intent_held _ n _ _ _ _ = tt
 
 step_held : (version : Version) (n : ℕ) (p : Progress) (line : Line) → IsRecordLine line → IsHeld (Stands p)
     → IsHeld (after_line version n p line)
 step_held _ n (InBase rows) (RowLine row) _ _ = cond_both (has_row rows row.uid) _ _ IsHeld (λ _. tt) (λ _. tt)
-step_held _ n (InBase rows) (IntentLine intent) is _ = opened _ n rows _ intent is
+step_held _ n (InBase rows) (IntentLine intent) is _ = intent_held _ n rows _ intent is
 step_held _ n (BetweenGroups _ _) (GroupLine count) _ held = held
-step_held _ n (BetweenGroups rows _) (IntentLine intent) is _ = opened _ n rows _ intent is
+step_held _ n (BetweenGroups rows _) (IntentLine intent) is _ = intent_held _ n rows _ intent is
 step_held version n (InGroup _ _ rows zero) (RowLine row) _ _ = cond_both (may_take version rows row) _ _ IsHeld (λ _. tt) (λ _. tt)
 step_held version n (InGroup _ _ rows (suc _)) (RowLine row) _ held = cond_both (may_take version rows row) _ _ IsHeld (λ _. held) (λ _. tt)
 step_held _ n p _ _ _ = tt
@@ -275,28 +275,28 @@ newer_group rows row q _ none = elim (cases_Bool (may_take One rows row)) [
   | inr h ↦ rw h tt
 ]
 
-step : (n : ℕ) (p : Progress) (line : Line) → left_open p ≡ None → IsNewer (after_line One n p line) (after_line Two n p line)
-step n (InBase rows) (RowLine row) none = cond_both (has_row rows row.uid) _ _ (λ j. IsNewer j j) (λ _. tt) (λ _. (refl, refl))
-step n (InBase _) (GroupLine count) none = (refl, refl)
-step n (BetweenGroups _ _) (GroupLine count) none = (refl, none)
-step n (InGroup _ _ rows zero) (RowLine row) none =
+newer_after_line : (n : ℕ) (p : Progress) (line : Line) → left_open p ≡ None → IsNewer (after_line One n p line) (after_line Two n p line)
+newer_after_line n (InBase rows) (RowLine row) none = cond_both (has_row rows row.uid) _ _ (λ j. IsNewer j j) (λ _. tt) (λ _. (refl, refl))
+newer_after_line n (InBase _) (GroupLine count) none = (refl, refl)
+newer_after_line n (BetweenGroups _ _) (GroupLine count) none = (refl, none)
+newer_after_line n (InGroup _ _ rows zero) (RowLine row) none =
     newer_group rows row (BetweenGroups (with_taken rows row) None) (RepeatedId (line_after n)) refl
-step n (InGroup old before rows (suc more)) (RowLine row) none =
+newer_after_line n (InGroup old before rows (suc more)) (RowLine row) none =
     newer_group rows row (InGroup old before (with_taken rows row) more) (RepeatedId (line_after n)) none
-step n p _ none = tt
+newer_after_line n p _ none = tt
 
 steps : (n : ℕ) (j k : Judged) (lines : List Line) → IsNewer j k → IsNewer (judged One n j lines) (judged Two n k lines)
 steps n j k [] newer = newer
 steps n (Fails _) k (_ ∷ lines) _ = tt
-steps n (Stands p) k (line ∷ lines) newer = rw newer.0 (steps (n + 1) (after_line One n p line) _ lines (step n p line newer.1))
+steps n (Stands p) k (line ∷ lines) newer = rw newer.0 (steps (n + 1) (after_line One n p line) _ lines (newer_after_line n p line newer.1))
 
 older_read : (rest : List ℕ) (version : Version) (rows : List Row) (intent : Option Intent) (torn : Bool)
     → Stood version (header One ++ rest) rows intent torn
     → (version ≡ One) × (intent ≡ None) × Means (header Two ++ rest) (Rows Two rows None torn)
-older_read rest Two _ _ _ s = absurd (let e = (same_lines One Two rest _ s.behind.cut.whole).0 in cc)
+older_read rest Two _ _ _ s = absurd (let e = (same_header One Two rest _ s.behind.cut.whole).0 in cc)
 older_read rest One _ _ _ s =
     let two = rw s.behind.stands at (steps 0 (Stands (InBase [])) (Stands (InBase [])) s.behind.lines (refl, refl)) in
-    let whole = ap (λ (xs : List ℕ). header Two ++ xs) (same_lines One One rest _ s.behind.cut.whole).1 in
+    let whole = ap (λ (xs : List ℕ). header Two ++ xs) (same_header One One rest _ s.behind.cut.whole).1 in
     let now : IsBehind Two (header Two ++ rest) s.n s.progress s.rest =
     record {
       lines = s.behind.lines;

@@ -49,10 +49,11 @@ apart_row (Within zero) _ _ _ _ behind begins follows _ _ = (begins, follows)
 apart_row _ _ _ _ _ behind begins follows _ _ = (begins, follows)
 
 -- after a line that is no row's
-no_row : (part : Part) (rest appended : List ℕ) (line : Line) (behind : List ℕ) → Follows part appended rest
+no_row_begins : (part : Part) (rest appended : List ℕ) (line : Line) (behind : List ℕ) → Follows part appended rest
     → IsRecordLine line → rest ≡ record_line line ++ behind → ((row : Row) → RowLine row ≢ line) → BeginsWithNoRow appended
-no_row Base _ _ _ behind at is line_is other = λ row _ is_row here. other row (text_unique _ _ _ _ is_row is (sym here ∙ at ∙ line_is)).0
-no_row _ _ _ _ behind none _ _ _ = none
+no_row_begins Base _ _ _ behind at is line_is other =
+    λ row _ is_row here. other row (text_unique _ _ _ _ is_row is (sym here ∙ at ∙ line_is)).0
+no_row_begins _ _ _ _ behind none _ _ _ = none
 
 -- ---- the loop
 
@@ -181,7 +182,7 @@ module _ {bytes lines : List ℕ} {older : Bool} {part : Part} {open' : Option I
         placed = tt;
         good = were.good;
         begins = were.begins;
-        follows = no_row part rest appended (GroupLine count) behind were.follows is line (λ _ e. cc);
+        follows = no_row_begins part rest appended (GroupLine count) behind were.follows is line (λ _ e. cc);
       }
 
   pub Reads-intent : (intent : Intent) → IsIntent intent → rest ≡ record_line (IntentLine intent) ++ behind
@@ -196,7 +197,7 @@ module _ {bytes lines : List ℕ} {older : Bool} {part : Part} {open' : Option I
     placed = tt;
     good = were.good;
     begins = were.begins;
-    follows = no_row part rest appended (IntentLine intent) behind were.follows is line (λ _ e. cc);
+    follows = no_row_begins part rest appended (IntentLine intent) behind were.follows is line (λ _ e. cc);
   }
 
   pub Reads-fails : (line : Line) (fault : SeenFault) → IsRecordLine line → rest ≡ record_line line ++ behind

@@ -463,18 +463,18 @@ are_last listing distinct = λ k d inside.
     rw (get_or-drop (1 + k) listing j e) (test_from_other _ _ (other_ids listing k (1 + k + j) d.1 e distinct (omega arith)
     (omega (arith, within, length-drop (1 + k) listing)))))))
 
-all_pass : {X : Type 0} (test : X → Bool) (xs : List X) → All (λ x. test x ≡ true) xs → map test xs ≡ replicate (length xs) true
-all_pass test [] all = refl
-all_pass test (x ∷ xs) all = rw (
+map_all_true : {X : Type 0} (test : X → Bool) (xs : List X) → All (λ x. test x ≡ true) xs → map test xs ≡ replicate (length xs) true
+map_all_true test [] all = refl
+map_all_true test (x ∷ xs) all = rw (
   All-head (λ y. test y ≡ true) x xs all,
-  all_pass test xs (All-tail (λ y. test y ≡ true) x xs all),
+  map_all_true test xs (All-tail (λ y. test y ≡ true) x xs all),
 ) refl
 
 pub all_flags : (test : Message → Bool) (listing : List Item) (n : ℕ) (flags : List Bool)
     → All (λ message. test message ≡ true) (numbered listing)
     → n ≡ length listing → flags ≡ replicate n true → flags ≡ map test (numbered listing)
 all_flags test listing n flags all count are = rw (are, count, ← length-enumerate_from 1 listing)
-    (sym (all_pass test (numbered listing) all))
+    (sym (map_all_true test (numbered listing) all))
 
 pub wanted-first : WantedAreFirst
 wanted-first settings is_odd rows listing distinct =

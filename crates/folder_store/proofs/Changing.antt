@@ -1,7 +1,7 @@
 -- Files that are changed by their handles, in the terms of paths.
 use Rattle.std.proofs.{
-  Common.{◌≡◌, ◌≢◌, ◌⊎◌, ℕ, refl, arith, List, [], ◌∷◌, ◌++◌, take, drop, sym, ap, subst, ◌∙◌, Bool, true, false, Option, Some, None},
-  Common.{bytes_eq, cond},
+  Common.{◌≡◌, ◌≢◌, ◌⊎◌, ℕ, refl, List, [], ◌∷◌, ◌++◌, take, drop, sym, ap, subst, ◌∙◌, Bool, true, false, Option, Some, None},
+  Common.{bytes_eq, cond, is_some, true≢false},
   Common.{Result, Ok, Err, inl, inr, ⊎_elim, append_assoc, append-nil, take-append-drop, option_map, length, ◌-◌, ◌+◌},
   lemmas.{Slice.Eq.bytes_eq-Decides, Option.same_Some, Bool.{cases_Bool, cond-true, cond-false, cond_both}, List.take_rest},
 }
@@ -27,7 +27,7 @@ use Rattle.folder_store.proofs.{Files.{appended_nothing, find_here, find_later, 
 -- ---- a file that is put where it was
 
 placed_same : (name : List ℕ) (b : Blob) (es : List DirEntry) → find name es ≡ Some b → placed name b es ≡ es
-placed_same name b [] found = grind arith
+placed_same name b [] found = absurd (true≢false (sym (ap is_some found)))
 placed_same name b (e ∷ es) found = elim (cases_Bool (bytes_eq name e.name)) [
   | inl same ↦ cond-true (bytes_eq name e.name) (entry name b ∷ es) (e ∷ placed name b es) same
       ∙ ap (λ (n : List ℕ). entry n b ∷ es) ((bytes_eq-Decides name e.name).0 same)
@@ -227,15 +227,15 @@ module _ {F : Type 0} (opened : F → OpenPath) (folder : List ℕ) where
         (λ (y : Changed F). opened y.file ≡ record { path = front_of folder ++ string_bytes y.name; turn = u.turn; place = 0 })
         (same_Some x c (sym is ∙ at)) (here s).0;
     there = λ c at s. subst (λ (y : Changed F). find (front_of folder ++ string_bytes y.name) u.directory.entries ≢ None)
-        (same_Some x c (sym is ∙ at)) (λ gone. let clash : None ≡ Some (here s).1.0 = sym gone ∙ (here s).1.1 in grind arith);
+        (same_Some x c (sym is ∙ at)) (λ gone. true≢false (ap is_some (sym (here s).1.1 ∙ gone)));
     names = λ n at s. k.names n (sym names ∙ at) (back s);
   }
 
   pub keeps_none : (before after : Type 0) (t u : Tree) (g h : Handles F) → KeptHolds before opened t folder g → (after → before)
       → h.changed ≡ None → h.names ≡ g.names → KeptHolds after opened u folder h
   keeps_none before after t u g h k back is names = record {
-    changed = λ c at s. absurd (let clash : None ≡ Some c = sym is ∙ at in grind arith);
-    there = λ c at s. absurd (let clash : None ≡ Some c = sym is ∙ at in grind arith);
+    changed = λ c at s. absurd (true≢false (ap is_some (sym at ∙ is)));
+    there = λ c at s. absurd (true≢false (ap is_some (sym at ∙ is)));
     names = λ n at s. k.names n (sym names ∙ at) (back s);
   }
 

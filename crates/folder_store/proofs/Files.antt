@@ -193,13 +193,13 @@ once_here name (o ∷ older) left (inr was) = elim (cases_Bool (bytes_eq o.name 
   | inr apart ↦ rw apart (once_here name older left was)
 ]
 
-pub may_now : (d : Directory) (name : List ℕ) (left : Option (List ℕ)) → IsLeftOf (find name d.entries) left → MayBe d name left
+pub may_be_now : (d : Directory) (name : List ℕ) (left : Option (List ℕ)) → IsLeftOf (find name d.entries) left → MayBe d name left
 unfolding MayLeave
-may_now d name left now = inl now
+may_be_now d name left now = inl now
 
-pub may_once : (d : Directory) (name : List ℕ) (left : Option (List ℕ)) → WasOnce d.older name left → MayBe d name left
+pub may_be_older : (d : Directory) (name : List ℕ) (left : Option (List ℕ)) → WasOnce d.older name left → MayBe d name left
 unfolding MayLeave
-may_once d name left was = inr (once_here name d.older left was)
+may_be_older d name left was = inr (once_here name d.older left was)
 
 -- the folder once everything is durable, and under one name is what is to be left there
 abbrev others : List ℕ → List DirEntry → List DirEntry
@@ -235,7 +235,7 @@ power_leaves old name left = (
       can_make = refl;
       each = λ n. rw (find_left name n left old.entries, seen_all (left_at name left old.entries n))
           (cond_both (bytes_eq n name) left (content_at old n) (λ (o : Option (List ℕ)). MayBe old n o)
-          (λ same. rw ((bytes_eq-Decides n name).0 same) may) (λ _. may_now old n (content_at old n) (may_arrive (find n old.entries))));
+          (λ same. rw ((bytes_eq-Decides n name).0 same) may) (λ _. may_be_now old n (content_at old n) (may_arrive (find n old.entries))));
       durable = λ n. record {
         named = refl;
         flushed = rw (find_left name n left old.entries) (flushed_all (left_at name left old.entries n));

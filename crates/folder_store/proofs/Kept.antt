@@ -1,5 +1,5 @@
 -- What was kept aside, piece by piece.
-use Rattle.std.proofs.Common.{arith, ◌≡◌, ◌⊎◌, ◌<◌, ◌≤◌, ◌+◌, ◌-◌, ℕ, List, drop, inl, inr, length, take, slice_index}
+use Rattle.std.proofs.Common.{arith, ap, sym, ⊎_elim, ◌∙◌, ◌≡◌, ◌⊎◌, ◌<◌, ◌≤◌, ◌+◌, ◌-◌, ℕ, List, drop, inl, inr, length, take, slice_index}
 use Rattle.std.proofs.lemmas.{Bool.cases_lt, List.{get_or-drop, get_or-take, length-take}}
 use Rattle.mail_store.specs.FlatFile.{piece_at}
 use Rattle.folder_store.specs.{CutOff.BeginsWith, declared.cut_off.CutOff.CutOff}
@@ -19,17 +19,19 @@ agrees_at : (at count : ℕ) (entry was buf : List ℕ) → count ≡ length (pi
     → (k < at) ⊎ (at ≤ k) → (slice_index was k ≡ 0) ⊎ (slice_index was k ≡ slice_index entry k)
 agrees_at at count entry was buf counted piece begins agrees k below there (inl before) = agrees k before there
 agrees_at at count entry was buf counted piece begins agrees k below there (inr behind) =
-    let long : length (take count buf) ≡ count = cc (piece, counted) in
+    let long : length (take count buf) ≡ count = ap (λ (xs : List ℕ). length xs) piece ∙ sym counted in
     let here = begins.1 (k - at) (omega (arith, long, below, behind)) in
     let back : at + (k - at) ≡ k = omega (arith, behind) in
     let within : k - at < length buf = omega (arith, counted, below, behind, length-take (length buf) (drop at was)) in
     let read : slice_index (take count buf) (k - at) ≡ slice_index was k =
-    cc (piece, get_or-take (length buf) (drop at was) (k - at) 0 within, get_or-drop at was (k - at) 0, back) in
+    ap (λ (xs : List ℕ). slice_index xs (k - at)) piece ∙ get_or-take (length buf) (drop at was) (k - at) 0 within
+    ∙ get_or-drop at was (k - at) 0 ∙ ap (slice_index was) back in
     let long_rest = length-take (length entry - at) (drop at entry) in
     let inside : k - at < length entry - at = omega (arith, long, below, behind, begins.0, long_rest) in
     let other : slice_index (rest_at at entry) (k - at) ≡ slice_index entry k =
-    cc (get_or-take (length entry - at) (drop at entry) (k - at) 0 inside, get_or-drop at entry (k - at) 0, back) in
-    grind (arith, here, read, other)
+    get_or-take (length entry - at) (drop at entry) (k - at) 0 inside ∙ get_or-drop at entry (k - at) 0
+    ∙ ap (slice_index entry) back in
+    ⊎_elim (λ none. inl (sym read ∙ none)) (λ same. inr (sym read ∙ same ∙ other)) here
 
 -- one more piece
 pub agrees_on : (at count : ℕ) (entry was buf : List ℕ) → count ≡ length (piece_at at (length buf) was)

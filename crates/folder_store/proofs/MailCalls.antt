@@ -29,7 +29,7 @@ use Rattle.folder_store.{
   specs.MailCalls.{AllSought, TellsRest, ToldBoth, entry_flushed_by, after_listing, file_names, named_by},
   specs.MailCalls.{names_flushed_in, put_as, without_taken},
   proofs.MailMoves.{SomeIs, both_named, each_by, files_moved, files_reached, flush_keeps, leads_same, mapped_leads, moved_same, rests_new},
-  proofs.MailMoves.{moved_leads, moved_maildir, moved_rests, same_rests_at, some_kept, some_map, there_some},
+  proofs.MailMoves.{moved_leads, moved_maildir, moved_rests, same_rests_at, some_after, some_map, there_some},
 }
 
 -- ---- what is known of the folders once files that readers took away are known no longer
@@ -174,10 +174,10 @@ told_both seeks ss new cur (first, in_new, are_new) (second, in_cur, are_cur) =
     )
 
 -- both lists, and `new` has rested since its own
-pub looked : {A B : Type 0} (sought : Sought) (b0 b1 b2 b3 : Directories) (new cur : Vec (String A) B) (rests : Bool)
+pub both_listed : {A B : Type 0} (sought : Sought) (b0 b1 b2 b3 : Directories) (new cur : Vec (String A) B) (rests : Bool)
     → Then (ListsIn New sought (Ok new)) b0 b1 → Then (ListsIn Cur sought (Ok cur)) b1 b2
     → Then (TellsRest New (Ok rests)) b2 b3 → IsTrue rests → ListedBoth sought (new, cur) b3
-looked sought b0 b1 b2 b3 new cur rests (m1, v1, s1) (m2, v2, s2) (m3, v3, s3) rested = (
+both_listed sought b0 b1 b2 b3 new cur rests (m1, v1, s1) (m2, v2, s2) (m3, v3, s3) rested = (
   moment,
   (rw still.there s1.0, rw (same_new, v2.odd_new) s1.1, refl, rw (same_new, v2.odd_new) s1.3),
   (s2.0, s2.1, refl, s2.3),
@@ -343,7 +343,7 @@ told_one {A} folder b0 b1 b2 names done (m1, v1, (there, (order, same, are), e1,
         let touched = listed_touch folder (filter is_left m1.entries) name (Contains-permutation (bases_told names.items) after_listing name
         (IsPermutation-sym after_listing (bases_told names.items) (told_part (entries_in folder m1.entries) names.items
         (subst (IsPermutation (map name_at (entries_in folder m1.entries))) (sym are) same))) c) in
-        let still = some_kept {Will = Touch folder name} (filter is_left m1.entries) m2.entries
+        let still = some_after {Will = Touch folder name} (filter is_left m1.entries) m2.entries
         (rw (ap (λ (d : Directories). d.entries) e1, (listed_is folder b1 m1).0) at v2.moves) touched
         (λ s t m is. (m.keeps.title ∙ is.0, still_touches folder s t m is.1)) in
         rw e2 (some_map _ (named_by folder) m2.entries still (λ s is. named_touch folder s name is.0 is.1))
@@ -367,9 +367,9 @@ seen : {Does : Maildir → Type 0} (a b : Directories) (begun : Option Draft) (w
 seen a b begun was odd n l same does =
     (left_in a b begun odd n, record { gone = l.gone; files = l.left; odd = l.odd; told = same; is = rw l.taken refl }, does)
 
-left_as : (a b : Directories) (begun : Option Draft) (odd : List (List ℕ)) (m k n : ℕ) → Learns a b → m ≡ k
+maildir_left : (a b : Directories) (begun : Option Draft) (odd : List (List ℕ)) (m k n : ℕ) → Learns a b → m ≡ k
     → maildir_in b begun odd m ≡ record (left_in a b begun odd n) { failures = k }
-left_as a b begun odd m k n l e = rw (l.there, e) refl
+maildir_left a b begun odd m k n l e = rw (l.there, e) refl
 
 one_lacks : (there : Folders) (folder : Folder) → is_there there folder ≡ false → (there.new ≡ false) ⊎ (there.cur ≡ false)
 one_lacks there New e = inl e
@@ -388,7 +388,7 @@ told_names seeks a b begun was n m found (l, told, _) k =
       rw (sym l.there) told.cur_is_there,
       told.lists,
       told.named,
-      left_as a b begun odd m n n l k,
+      maildir_left a b begun odd m n n l k,
       told.odd_are,
       told.odd_sought,
     )
@@ -399,20 +399,20 @@ pub none_told : {odd : List (List ℕ)} (seeks : List ℕ → Bool) (a b : Direc
     (λ left. ListsAmong {A = Global} {B = Global} left seeks (Err fault) (maildir_in b begun odd m))
 none_told {odd} seeks a b begun n m Missing l missing device k =
     let lacks = missing refl in
-    seen a b begun odd odd n l (λ _. refl) (rw (sym l.there) (one_lacks b.there lacks.0 lacks.1), left_as a b begun odd m n n l k)
+    seen a b begun odd odd n l (λ _. refl) (rw (sym l.there) (one_lacks b.there lacks.0 lacks.1), maildir_left a b begun odd m n n l k)
 none_told {odd} seeks a b begun n m Refused l missing device k =
-    seen a b begun odd odd n l (λ _. refl) (left_as a b begun odd m (n + 1) n l k)
+    seen a b begun odd odd n l (λ _. refl) (maildir_left a b begun odd m (n + 1) n l k)
 none_told {odd} seeks a b begun n m _ l missing device k = absurd (⊎_elim (λ e. cc) (λ e. cc) device)
 
 pub told_those : {A B : Type 0} {odd : List (List ℕ)} (a b : Directories) (folder : Folder) (begun : Option Draft) (n m : ℕ)
     (r : Result (Vec (String A) B) StoreFault) → TellsOne a folder r b → IfErr r IsDeviceFault → IsCountAfter r n m
     → AfterTaking (maildir_in a begun odd n) (λ left. Lists left folder r (maildir_in b begun odd m))
 told_those {odd} a b folder begun n m (Ok names) (l, (there, theirs), _) device k =
-    seen a b begun odd odd n l (λ _. refl) (rw (sym l.there) there, theirs, left_as a b begun odd m n n l k)
+    seen a b begun odd odd n l (λ _. refl) (rw (sym l.there) there, theirs, maildir_left a b begun odd m n n l k)
 told_those {odd} a b folder begun n m (Err Missing) (l, _, missing) device k =
-    seen a b begun odd odd n l (λ _. refl) (rw (sym l.there) (missing refl), left_as a b begun odd m n n l k)
+    seen a b begun odd odd n l (λ _. refl) (rw (sym l.there) (missing refl), maildir_left a b begun odd m n n l k)
 told_those {odd} a b folder begun n m (Err Refused) (l, _, _) device k =
-    seen a b begun odd odd n l (λ _. refl) (left_as a b begun odd m (n + 1) n l k)
+    seen a b begun odd odd n l (λ _. refl) (maildir_left a b begun odd m (n + 1) n l k)
 told_those {odd} a b folder begun n m (Err _) t device k = absurd (⊎_elim (λ e. cc) (λ e. cc) device)
 
 pub checked : {T : Type 0} (a b : Directories) (folder : Folder) (begun : Option Draft) (odd : List (List ℕ)) (n m : ℕ)
@@ -440,13 +440,13 @@ named_files (s ∷ ss) = (
   named_files ss,
 )
 
-split_last : (ss : List MailFile) (s : MailFile) (ts : List MailFile) → AllZip MovesFile (ss ++ s ∷ []) ts → Splits ss s ts
-split_last [] s [] h = absurd h
-split_last [] s (t ∷ []) h = ([], t, refl, tt, h.0)
-split_last [] s (t ∷ (u ∷ ts)) h = absurd h.1
-split_last (x ∷ ss) s [] h = absurd h
-split_last (x ∷ ss) s (t ∷ ts) h =
-    let r = split_last ss s ts h.1 in
+last_file_moved : (ss : List MailFile) (s : MailFile) (ts : List MailFile) → AllZip MovesFile (ss ++ s ∷ []) ts → Splits ss s ts
+last_file_moved [] s [] h = absurd h
+last_file_moved [] s (t ∷ []) h = ([], t, refl, tt, h.0)
+last_file_moved [] s (t ∷ (u ∷ ts)) h = absurd h.1
+last_file_moved (x ∷ ss) s [] h = absurd h
+last_file_moved (x ∷ ss) s (t ∷ ts) h =
+    let r = last_file_moved ss s ts h.1 in
     (t ∷ r.0, r.1, ap (λ (us : List MailFile). t ∷ us) r.2, (h.0, r.3), r.4)
 
 -- a file that was flushed was put, once others were moved
@@ -480,7 +480,7 @@ module _ (b0 b1 : Directories) (content name : List ℕ) (file : MadeFile)
   -- or were
   put_named : (m b2 : Directories) → Moved b1 m → b2 ≡ names_flushed_in New m → BringsFiles b0 (mail name content ∷ []) b2
   put_named m b2 v e =
-      let last = split_last p.0.entries (put_as name file) m.entries (rw put_is at v.moves) in
+      let last = last_file_moved p.0.entries (put_as name file) m.entries (rw put_is at v.moves) in
       let t = last.1 in
       let moved = last.4 in
       let is = mail_is (named_by New t) moved.keeps.title (moved.keeps.content ∙ ap (λ (x : MadeFile). x.content) filled)

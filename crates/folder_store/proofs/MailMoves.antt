@@ -33,9 +33,9 @@ SomeIs Is [] = ⊥
 SomeIs Is (s ∷ entries) = Is s ⊎ SomeIs Is entries
 
 -- what holds of one of the files, then holds of one of the others
-pub some_kept : {Does : MailFile → MailFile → Type 0} {Is Will : MailFile → Type 0} → (a b : List MailFile) → AllZip Does a b → SomeIs Is a
+pub some_after : {Does : MailFile → MailFile → Type 0} {Is Will : MailFile → Type 0} → (a b : List MailFile) → AllZip Does a b → SomeIs Is a
     → ((s t : MailFile) → Does s t → Is s → Will t) → SomeIs Will b
-some_kept {Does} {Is} {Will} a b h is each =
+some_after {Does} {Is} {Will} a b h is each =
     each_by Does (λ a b. SomeIs Is a → SomeIs Will b) (λ is. is)
     (λ s t ss ts d rest. ⊎_elim (λ is. inl (each s t d is)) (λ is. inr (rest is))) a b h is
 

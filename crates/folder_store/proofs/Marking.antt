@@ -11,8 +11,8 @@ use Rattle.std.{
 use Rattle.mail_store.specs.FileName.{is_lower_hex_digit}
 use Rattle.folder_store.specs.Marks.{AreMarkParts, EndsInMark, IsProcessId, IsFreeOf, is_random}
 
-same_cons : {c d : ℕ} {a b : List ℕ} → c ∷ a ≡ d ∷ b → (c ≡ d) × (a ≡ b)
-same_cons e = (cc, cc)
+pub cons_parts : {A : Type 0} {c d : A} {a b : List A} → c ∷ a ≡ d ∷ b → (c ≡ d) × (a ≡ b)
+cons_parts e = (cc, cc)
 
 has_it : (c : ℕ) (a x : List ℕ) → IsFreeOf c (a ++ c ∷ x) → ⊥
 has_it c [] x lacks = All-head (λ (o : ℕ). o ≢ c) c x lacks refl
@@ -20,18 +20,18 @@ has_it c (d ∷ a) x lacks = has_it c a x (All-tail (λ (o : ℕ). o ≢ c) d (a
 
 -- what is after the last of an octet
 last_same : (c : ℕ) (a b x y : List ℕ) → IsFreeOf c x → IsFreeOf c y → a ++ c ∷ x ≡ b ++ c ∷ y → x ≡ y
-last_same c [] [] x y p q e = (same_cons e).1
-last_same c [] (d ∷ b) x y p q e = absurd (has_it c b y (subst (λ (l : List ℕ). IsFreeOf c l) (same_cons e).1 p))
-last_same c (k ∷ a) [] x y p q e = absurd (has_it c a x (subst (λ (l : List ℕ). IsFreeOf c l) (sym (same_cons e).1) q))
-last_same c (k ∷ a) (d ∷ b) x y p q e = last_same c a b x y p q (same_cons e).1
+last_same c [] [] x y p q e = (cons_parts e).1
+last_same c [] (d ∷ b) x y p q e = absurd (has_it c b y (subst (λ (l : List ℕ). IsFreeOf c l) (cons_parts e).1 p))
+last_same c (k ∷ a) [] x y p q e = absurd (has_it c a x (subst (λ (l : List ℕ). IsFreeOf c l) (sym (cons_parts e).1) q))
+last_same c (k ∷ a) (d ∷ b) x y p q e = last_same c a b x y p q (cons_parts e).1
 
 -- what is before the first of an octet, and after it
 first_same : (c : ℕ) (a b x y : List ℕ) → IsFreeOf c a → IsFreeOf c b → a ++ c ∷ x ≡ b ++ c ∷ y → (a ≡ b) × (x ≡ y)
-first_same c [] [] x y p q e = (refl, (same_cons e).1)
-first_same c [] (d ∷ b) x y p q e = absurd (All-head (λ (o : ℕ). o ≢ c) d b q (sym (same_cons e).0))
-first_same c (k ∷ a) [] x y p q e = absurd (All-head (λ (o : ℕ). o ≢ c) k a p (same_cons e).0)
+first_same c [] [] x y p q e = (refl, (cons_parts e).1)
+first_same c [] (d ∷ b) x y p q e = absurd (All-head (λ (o : ℕ). o ≢ c) d b q (sym (cons_parts e).0))
+first_same c (k ∷ a) [] x y p q e = absurd (All-head (λ (o : ℕ). o ≢ c) k a p (cons_parts e).0)
 first_same c (k ∷ a) (d ∷ b) x y p q e =
-    let parts = same_cons e in
+    let parts = cons_parts e in
     let rest = first_same c a b x y (All-tail (λ (o : ℕ). o ≢ c) k a p) (All-tail (λ (o : ℕ). o ≢ c) d b q) parts.1 in
     (ap₂ (λ m l. m ∷ l) parts.0 rest.0, rest.1)
 
@@ -74,16 +74,16 @@ its_mark : (name part front id random : List ℕ) → IsFreeOf 46 part → (befo
 its_mark name part front id random lacks (before, cut) is process rand =
     last_same 46 before front part (80 ∷ (id ++ 82 ∷ random)) lacks (mark_lacks id random process rand) (sym cut ∙ is)
 
-pub unmarked : (name part : List ℕ) → IsFreeOf 46 part → (before : List ℕ) × (name ≡ before ++ 46 ∷ part)
+pub ends_in_no_mark : (name part : List ℕ) → IsFreeOf 46 part → (before : List ℕ) × (name ≡ before ++ 46 ∷ part)
     → ((id random : List ℕ) → part ≢ 80 ∷ (id ++ 82 ∷ random)) → EndsInMark name → ⊥
-unmarked name part lacks cut never (front, id, random, is, process, rand) =
+ends_in_no_mark name part lacks cut never (front, id, random, is, process, rand) =
     never id random (its_mark name part front id random lacks cut is process rand)
 
 pub its_parts : (name part id random : List ℕ) → IsFreeOf 46 part → (before : List ℕ) × (name ≡ before ++ 46 ∷ part) → IsFreeOf 82 id
     → part ≡ 80 ∷ (id ++ 82 ∷ random) → EndsInMark name → IsProcessId id × (is_random random ≡ true)
 its_parts name part id random lacks cut before_r whole (front, other, more, is, process, rand) =
     let mark = its_mark name part front other more lacks cut is process rand in
-    let same = first_same 82 id other random more before_r (id_lacks 82 (omega arith) other process) (same_cons (sym whole ∙ mark)).1 in (
+    let same = first_same 82 id other random more before_r (id_lacks 82 (omega arith) other process) (cons_parts (sym whole ∙ mark)).1 in (
       subst (λ (l : List ℕ). IsProcessId l) (sym same.0) process,
       subst (λ (l : List ℕ). is_random l ≡ true) (sym same.1) rand,
     )
@@ -112,10 +112,10 @@ some_last name before part (i, j, found, is, rest, _, _, _) = (
   ),
 )
 
-pub parts_of : (mark rest : List ℕ) (parts : Option (Bor (List ℕ) × Bor (List ℕ))) → mark ≡ 80 ∷ rest → IsSplitOnceResult 82 rest parts
+pub mark_is_split : (mark rest : List ℕ) (parts : Option (Bor (List ℕ) × Bor (List ℕ))) → mark ≡ 80 ∷ rest → IsSplitOnceResult 82 rest parts
     → AreMarkParts mark parts
-parts_of mark rest None is split = λ id random whole. has_it 82 id random (subst (λ (l : List ℕ). IsFreeOf 82 l)
-    (same_cons (sym is ∙ whole)).1 (lacks_each 82 rest (split_parts 82 rest None split (omega arith))))
-parts_of mark rest (Some found) is split =
+mark_is_split mark rest None is split = λ id random whole. has_it 82 id random (subst (λ (l : List ℕ). IsFreeOf 82 l)
+    (cons_parts (sym is ∙ whole)).1 (lacks_each 82 rest (split_parts 82 rest None split (omega arith))))
+mark_is_split mark rest (Some found) is split =
     let parts = split_parts 82 rest (Some found) split (omega arith) in
     (lacks_each 82 found.0.now parts.1, is ∙ ap (λ (l : List ℕ). 80 ∷ l) parts.0)

@@ -38,13 +38,6 @@ piece_more : (place m n : ℕ) (content : List ℕ)
 piece_more place m n content = take-add m n (drop place content)
     ∙ ap (λ (xs : List ℕ). take m (drop place content) ++ take n xs) (drop-drop m place content)
 
--- a piece that reaches the end is no longer for more room
-pub piece_ends : (place m room : ℕ) (content : List ℕ) → m ≤ room → length content ≤ place + m
-    → piece_at place m content ≡ piece_at place room content
-piece_ends place m room content fits ends =
-    let left = length-drop place content in
-    take_all m (drop place content) (omega arith) ∙ sym (take_all room (drop place content) (omega arith))
-
 put_more : (m k n : ℕ) (buf part : List ℕ) → m ≤ length buf → n ≤ length part
     → take (m + n) (put_mid m k buf part) ≡ take m buf ++ take n part
 put_more m k n buf part within fits =
@@ -87,25 +80,6 @@ filled_same t file now later buf part m k within so stays = record {
       (before.0, take-put_mid_below m k buf part m (omega arith) within ∙ before.1);
 }
 
--- the end was reached
-pub filled_ends : (t u : Tree) (file now later : OpenPath) (buf part : List ℕ) (m k room : ℕ) → u ≡ t → m ≤ length buf → m ≤ room
-    → IsFilled t file m buf now → later ≡ record now { place = now.place + 0 }
-    → ((b : Blob) → StillLeads u now b → IsRead b now.place 0 part)
-    → (later ≡ record file { place = file.place + m }) × ((b : Blob) → StillLeads t file b
-    → (m ≡ length (piece_at file.place room b.content)) × (take m (put_mid m k buf part) ≡ piece_at file.place room b.content))
-filled_ends t u file now later buf part m k room same within fits so on reads = (
-  moved_on file now later m 0 so.at on ∙ ap (λ (i : ℕ). record file { place = file.place + i }) (omega arith),
-  λ b leads.
-      let before = so.bytes b leads in
-      let read = reads b (leads_on t u file now m b same so.at leads) in
-      let place = place_of file now m so.at in
-      let ends : length b.content ≤ file.place + m = omega (arith, read.ends refl, place) in
-      let whole = piece_ends file.place m room b.content fits ends in (
-        before.0 ∙ ap (λ (xs : List ℕ). length xs) whole,
-        take-put_mid_below m k buf part m (omega arith) within ∙ before.1 ∙ whole,
-      ),
-)
-
 -- what was read fits
 pub put_fits : (m n : ℕ) (buf part : List ℕ) → m ≤ length buf → n ≤ length part → length part ≡ length (mid_of m (length buf - m) buf)
     → m + n ≤ length (put_mid m (length buf - m) buf part)
@@ -146,27 +120,27 @@ vec_put len xs items long = take_at xs (drop (length xs) items) len long
 
 -- ---- the ends of a file
 
-one_more : (xs : List ℕ) (j n : ℕ) → j < length xs → take (suc n) (drop j xs) ≡ slice_index xs j ∷ take n (drop (suc j) xs)
-one_more xs j n within = ap (take (suc n)) (drop-cons xs j 0 within)
+octet_and_rest : (xs : List ℕ) (j n : ℕ) → j < length xs → take (suc n) (drop j xs) ≡ slice_index xs j ∷ take n (drop (suc j) xs)
+octet_and_rest xs j n within = ap (take (suc n)) (drop-cons xs j 0 within)
 
 first_five : (xs : List ℕ) → 5 ≤ length xs → take 5 xs
     ≡ slice_index xs 0 ∷ slice_index xs 1 ∷ slice_index xs 2 ∷ slice_index xs 3 ∷ slice_index xs 4 ∷ []
-first_five xs long = one_more xs 0 4 (omega arith)
-    ∙ ap (λ (ys : List ℕ). slice_index xs 0 ∷ ys) (one_more xs 1 3 (omega arith)
-    ∙ ap (λ (ys : List ℕ). slice_index xs 1 ∷ ys) (one_more xs 2 2 (omega arith)
-    ∙ ap (λ (ys : List ℕ). slice_index xs 2 ∷ ys) (one_more xs 3 1 (omega arith)
-    ∙ ap (λ (ys : List ℕ). slice_index xs 3 ∷ ys) (one_more xs 4 0 (omega arith)))))
+first_five xs long = octet_and_rest xs 0 4 (omega arith)
+    ∙ ap (λ (ys : List ℕ). slice_index xs 0 ∷ ys) (octet_and_rest xs 1 3 (omega arith)
+    ∙ ap (λ (ys : List ℕ). slice_index xs 1 ∷ ys) (octet_and_rest xs 2 2 (omega arith)
+    ∙ ap (λ (ys : List ℕ). slice_index xs 2 ∷ ys) (octet_and_rest xs 3 1 (omega arith)
+    ∙ ap (λ (ys : List ℕ). slice_index xs 3 ∷ ys) (octet_and_rest xs 4 0 (omega arith)))))
 
 index_back : (xs : List ℕ) (n : ℕ) → 2 ≤ n → slice_index (0 ∷ 0 ∷ xs) n ≡ slice_index xs (n - 2)
 index_back xs zero two = absurd (omega arith)
 index_back xs (suc zero) two = absurd (omega arith)
 index_back xs (suc (suc n)) two = ap (slice_index xs) (omega arith)
 
-last_two : (xs : List ℕ) → 2 ≤ length xs → take 2 (drop (length xs - 2) xs)
+last_octets : (xs : List ℕ) → 2 ≤ length xs → take 2 (drop (length xs - 2) xs)
     ≡ slice_index (0 ∷ 0 ∷ xs) (length xs) ∷ slice_index (0 ∷ 0 ∷ xs) (length xs + 1) ∷ []
-last_two xs long = one_more xs (length xs - 2) 1 (omega arith)
+last_octets xs long = octet_and_rest xs (length xs - 2) 1 (omega arith)
     ∙ ap (λ (i : ℕ). i ∷ take 1 (drop (suc (length xs - 2)) xs)) (sym (index_back xs (length xs) (omega arith)))
-    ∙ ap (λ (ys : List ℕ). slice_index (0 ∷ 0 ∷ xs) (length xs) ∷ ys) (one_more xs (suc (length xs - 2)) 0 (omega arith)
+    ∙ ap (λ (ys : List ℕ). slice_index (0 ∷ 0 ∷ xs) (length xs) ∷ ys) (octet_and_rest xs (suc (length xs - 2)) 0 (omega arith)
     ∙ ap (λ (i : ℕ). slice_index xs i ∷ []) (omega arith)
     ∙ ap (λ (i : ℕ). i ∷ []) (sym (index_back xs (length xs + 1) (omega arith))))
 
@@ -180,7 +154,7 @@ edges_large content head tail size from to long is begins ends five two first la
     ∙ first_five content (omega arith) in
     let tail_is : tail ≡ (edges_of content).tail =
     last ∙ ap (λ (n : ℕ). take n (drop to content)) two ∙ ap (λ (p : ℕ). take 2 (drop p content)) (ends ∙ ap (λ (n : ℕ). n - 2) is)
-    ∙ last_two content (omega arith) in
+    ∙ last_octets content (omega arith) in
     ap (λ (n : ℕ). record { size = n; head = head; tail = tail }) is
     ∙ ap (λ (xs : List ℕ). record { size = length content; head = xs; tail = tail }) head_is
     ∙ ap (λ (xs : List ℕ). record { size = length content; head = (edges_of content).head; tail = xs }) tail_is

@@ -1,9 +1,9 @@
 -- What a device answers where the system refused a call, and paths.
-use Rattle.std.proofs.Common.{◌≡◌, ℕ, refl, List, [], ◌++◌, ap, ◌∙◌, append-nil, Result, Ok, Err, arith, sym}
+use Rattle.std.proofs.Common.{◌≡◌, ℕ, refl, List, [], ◌++◌, ap, ◌∙◌, append-nil, Result, Ok, Err, sym, true≢false}
 use Rattle.std.specs.{IoError.{error_kind}, declared.io.{Error.{Error}, ErrorKind.{ErrorKind, TheVariants.{NotFound}}}, Path.{path_join}}
 use Rattle.std.specs.Prelude.{IsErrAnd}
 use Rattle.system_calls.specs.declared.refusal.Denial.{Denial}
-use Rattle.mail_store.specs.declared.fault.StoreFault.{StoreFault, TheVariants.{Missing, Refused}}
+use Rattle.mail_store.specs.{Fault.is_refusal, declared.fault.StoreFault.{StoreFault, TheVariants.{Missing, Refused}}}
 use Rattle.folder_store.specs.{Calls.{IsAbsent, answered, device_fault}, Under.{front_of}}
 
 -- what isn't there, and anything else
@@ -16,7 +16,7 @@ other_fault _ apart = refl
 
 pub missing_absent : (k : ErrorKind) → device_fault k ≡ Missing → k ≡ NotFound
 missing_absent NotFound is = refl
-missing_absent _ is = grind arith
+missing_absent _ is = absurd (true≢false (ap is_refusal is))
 
 -- an answer that keeps the system's error
 answers_refused : {T : Type 0} → (answer : Result T Denial) (e : Error) (fault : StoreFault) → device_fault (error_kind e) ≡ fault

@@ -19,6 +19,7 @@ use Rattle.mail_store.specs.{FileName.stem_of, Held.is_asked, Loss.is_among}
 use Rattle.folder_store.specs.Wanted.{AreLegal, AreSorted, TellsNames, fits_name, has_octets, has_stem_of, is_listed}
 use Rattle.folder_store.specs.Wanted.{is_hidden_name, is_sought_by, name_ended}
 use Rattle.folder_store.specs.declared.wanted.Wanted.{Wanted, TheVariants.{All as Each}}
+use Rattle.folder_store.proofs.Marking.{cons_parts}
 
 -- all names are wanted
 pub filter_each : (names : List (List ℕ)) → filter (is_sought_by Each) names ≡ names
@@ -92,33 +93,33 @@ ids_lack account ids text legal none = list_any_none (λ (id : Bor (List ℕ)). 
 abbrev asked_as : List ℕ → List ℕ → Item × Bool → Bool
 asked_as account text asked = asked.1 && bytes_eq (stem_of account asked.0.uid) text
 
-no_item : Item × Bool
-no_item = (record { uid = []; size = 0 }, false)
+unflagged_item : Item × Bool
+unflagged_item = (record { uid = []; size = 0 }, false)
 
 -- steps of the loop over items: one that isn't asked for, and one that is
 pub ids_skip : (account text : List ℕ) (items : List Item) (flags : List Bool) (i : ℕ) → i < length items → i < length flags
     → get_or flags i false ≡ false
     → list_any (asked_as account text) (take (i + 1) (zip items flags)) ≡ list_any (asked_as account text) (take i (zip items flags))
-unfolding no_item
+unfolding unflagged_item
 ids_skip account text items flags i a b off =
-    list_any_more (asked_as account text) (zip items flags) i no_item (omega (arith, length-zip items flags, a, b))
-    ∙ rw (get_or-zip items flags i no_item a b, off) (or-false _)
+    list_any_more (asked_as account text) (zip items flags) i unflagged_item (omega (arith, length-zip items flags, a, b))
+    ∙ rw (get_or-zip items flags i unflagged_item a b, off) (or-false _)
 
 pub ids_more : (account text : List ℕ) (items : List Item) (flags : List Bool) (i : ℕ) (ids : List (Bor (List ℕ))) (id : Bor (List ℕ))
     → i < length items → i < length flags → get_or flags i false ≡ true → HoldsAt (λ (item : Item). id.now ≡ item.uid) items i
     → has_stem_of account ids text ≡ list_any (asked_as account text) (take i (zip items flags))
     → has_stem_of account (ids ++ id ∷ []) text ≡ list_any (asked_as account text) (take (i + 1) (zip items flags))
-unfolding no_item
+unfolding unflagged_item
 ids_more account text items flags i ids id a b on is so_far =
     let test : Item × Bool → Bool = asked_as account text in
     let more : list_any test (take (i + 1) (zip items flags)) ≡ (list_any test (take i (zip items flags))
-    || bytes_eq (stem_of account (get_or items i no_item.0).uid) text) =
-    list_any_more test (zip items flags) i no_item (omega (arith, length-zip items flags, a, b))
-    ∙ rw (get_or-zip items flags i no_item a b, on) refl in
+    || bytes_eq (stem_of account (get_or items i unflagged_item.0).uid) text) =
+    list_any_more test (zip items flags) i unflagged_item (omega (arith, length-zip items flags, a, b))
+    ∙ rw (get_or-zip items flags i unflagged_item a b, on) refl in
     let added : has_stem_of account (ids ++ id ∷ []) text ≡ (has_stem_of account ids text || bytes_eq (stem_of account id.now) text) =
     list_any-append (λ (one : Bor (List ℕ)). bytes_eq (stem_of account one.now) text) ids (id ∷ [])
     ∙ ap (λ (b : Bool). has_stem_of account ids text || b) (or-false (bytes_eq (stem_of account id.now) text)) in
-    rw (added, more, so_far, is no_item.0) refl
+    rw (added, more, so_far, is unflagged_item.0) refl
 
 -- all of them
 pub ids_end : (account text : List ℕ) (items : List Item) (flags : List Bool) (i : ℕ) (is : Bool) → length items ≤ i ⊎ length flags ≤ i
@@ -139,20 +140,17 @@ in_name octet = fits_name octet ≡ true
 nul_ends : (c : ℕ) → fits_name c ≡ true → c ≡ 0 → ⊥
 nul_ends c is none = true≢false (sym (subst (λ (k : ℕ). fits_name k ≡ true) none is))
 
-same_cons : {A : Type 0} {c d : A} {a b : List A} → c ∷ a ≡ d ∷ b → (c ≡ d) × (a ≡ b)
-same_cons e = (cc, cc)
-
 nothing_cut : (a x : List ℕ) → [] ≡ a ++ 0 ∷ x → ⊥
 nothing_cut [] x e = cc
 nothing_cut (c ∷ a) x e = cc
 
 -- a text without a NUL is all that is before one
 cut_same : (a b x y : List ℕ) → AllPass fits_name a → AllPass fits_name b → a ++ 0 ∷ x ≡ b ++ 0 ∷ y → (a ≡ b) × (x ≡ y)
-cut_same [] [] x y p q e = (refl, (same_cons e).1)
-cut_same [] (d ∷ b) x y p q e = absurd (nul_ends d (All-head in_name d b q) (sym (same_cons e).0))
-cut_same (c ∷ a) [] x y p q e = absurd (nul_ends c (All-head in_name c a p) (same_cons e).0)
+cut_same [] [] x y p q e = (refl, (cons_parts e).1)
+cut_same [] (d ∷ b) x y p q e = absurd (nul_ends d (All-head in_name d b q) (sym (cons_parts e).0))
+cut_same (c ∷ a) [] x y p q e = absurd (nul_ends c (All-head in_name c a p) (cons_parts e).0)
 cut_same (c ∷ a) (d ∷ b) x y p q e =
-    let parts = same_cons e in
+    let parts = cons_parts e in
     let rest = cut_same a b x y (All-tail in_name c a p) (All-tail in_name d b q) parts.1 in
     (ap₂ (λ k l. k ∷ l) parts.0 rest.0, rest.1)
 
@@ -164,10 +162,10 @@ has_nul (c ∷ a) x all = has_nul a x (All-tail in_name c (a ++ 0 ∷ x) all)
 abbrev pub WillFind : (List ℕ → Bool) → List ℕ → List (List ℕ) → List (List ℕ) → Type 0
 WillFind tells left found all = (rest : List (List ℕ)) × TellsNames left rest × (found ++ filter tells rest ≡ all)
 
-one_more : (is : Bool) (name : List ℕ) (found rest : List (List ℕ))
+name_before_rest : (is : Bool) (name : List ℕ) (found rest : List (List ℕ))
     → (found ++ (if is then name ∷ [] else [])) ++ rest ≡ found ++ (if is then name ∷ rest else rest)
-one_more true name found rest = append_assoc found (name ∷ []) rest
-one_more false name found rest = ap (λ (l : List (List ℕ)). l ++ rest) (append-nil found)
+name_before_rest true name found rest = append_assoc found (name ∷ []) rest
+name_before_rest false name found rest = ap (λ (l : List (List ℕ)). l ++ rest) (append-nil found)
 
 pub find_next : (tells : List ℕ → Bool) (left name after : List ℕ) (found more all : List (List ℕ))
     → left ≡ name ++ 0 ∷ after → AllPass fits_name name → more ≡ found ++ (if tells name then name ∷ [] else [])
@@ -180,7 +178,7 @@ find_next tells left name after found more all is only adds (first ∷ rest, tol
     let same = cut_same first name (flat_map name_ended rest) after free only whole in (
       rest,
       record { whole = sym same.1; without_nul = All-tail (AllPass fits_name) first rest told.without_nul },
-      rw (adds, ← same.0) (one_more (tells first) first found (filter tells rest)) ∙ finds,
+      rw (adds, ← same.0) (name_before_rest (tells first) first found (filter tells rest)) ∙ finds,
     )
 
 pub find_end : (tells : List ℕ → Bool) (left : List ℕ) (found all : List (List ℕ)) → AllPass fits_name left

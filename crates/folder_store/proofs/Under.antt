@@ -1,7 +1,7 @@
 -- Of files that are known by their paths, those in one folder: what changes of them are by their names.
 use Rattle.std.proofs.{
-  Common.{◌≡◌, ℕ, refl, arith, List, [], ◌∷◌, ◌++◌, cond, sym, ap, subst, ◌∙◌, Bool, true, false, Option, Some, None, bytes_eq},
-  Common.{Result, Ok, Err, inl, inr, ◌⊎◌, ◌&&◌, eqb},
+  Common.{◌≡◌, ℕ, refl, List, [], ◌∷◌, ◌++◌, cond, sym, ap, subst, ◌∙◌, Bool, true, false, Option, Some, None, bytes_eq},
+  Common.{Result, Ok, Err, is_some, true≢false, inl, inr, ◌⊎◌, ◌&&◌, eqb},
   lemmas.{Slice.Eq.bytes_eq-Decides, Option.same_Some, Bool.{Decides.Decides-eqb, cases_Bool, cond-true, cond-false, cond_both}},
 }
 use Rattle.mail_store.specs.{declared.fault.StoreFault.StoreFault, Durable.Blob}
@@ -33,11 +33,11 @@ after_front (x ∷ front) name = cond-true (eqb x x) (after front (front ++ name
 
 pub only_after : (front path name : List ℕ) → after front path ≡ Some name → path ≡ front ++ name
 only_after [] path name e = same_Some path name e
-only_after (x ∷ front) [] name e = grind arith
+only_after (x ∷ front) [] name e = absurd (true≢false (sym (ap is_some e)))
 only_after (x ∷ front) (y ∷ path) name e = cond_both (eqb x y) (after front path) None (λ (o : Option (List ℕ)). o ≡ Some name
     → y ∷ path ≡ x ∷ (front ++ name))
     (λ same e. ap (λ (z : ℕ). z ∷ path) (sym ((Decides-eqb x y).0 same)) ∙ ap (λ (zs : List ℕ). x ∷ zs) (only_after front path name e))
-    (λ apart e. grind arith) e
+    (λ apart e. absurd (true≢false (sym (ap is_some e)))) e
 
 bytes_eq_front : (front xs ys : List ℕ) → bytes_eq (front ++ xs) (front ++ ys) ≡ bytes_eq xs ys
 bytes_eq_front [] xs ys = refl
@@ -47,7 +47,7 @@ bytes_eq_front (x ∷ front) xs ys = ap (λ (v : Bool). v && bytes_eq (front ++ 
 differs : (front name path : List ℕ) → after front path ≡ None → bytes_eq (front ++ name) path ≡ false
 differs front name path lacks = elim (cases_Bool (bytes_eq (front ++ name) path)) [
   | inl same ↦ let clash : None ≡ Some name = sym lacks ∙ ap (after front) (sym ((bytes_eq-Decides (front ++ name) path).0 same))
-      ∙ after_front front name in grind arith
+      ∙ after_front front name in absurd (true≢false (sym (ap is_some clash)))
   | inr apart ↦ apart
 ]
 
@@ -95,9 +95,9 @@ placed_under front name b (e ∷ es) = placed_step front name b e es (after fron
 
 -- ---- what names led to
 
-older_put : (front name : List ℕ) (was : Option Blob) (os : List Older)
+older_put_under : (front name : List ℕ) (was : Option Blob) (os : List Older)
     → older_under front (record { name = front ++ name; was = was } ∷ os) ≡ record { name = name; was = was } ∷ older_under front os
-older_put front name was os = ap
+older_put_under front name was os = ap
     (λ (o : Option (List ℕ)). older_entry_under o (record { name = front ++ name; was = was }) (older_under front os))
     (after_front front name)
 
@@ -112,7 +112,7 @@ put_under front name file d =
     (placed_under front name (blob_made file) d.entries)
     ∙ ap (λ (os : List Older). record
     (directory_under front d) { entries = placed name (blob_made file) (under front d.entries); older = os }) (
-    older_put front name (find (front ++ name) d.entries) d.older
+    older_put_under front name (find (front ++ name) d.entries) d.older
     ∙ ap (λ (was : Option Blob). record { name = name; was = was } ∷ older_under front d.older) (find_under front name d.entries))
 
 pub with_under : (front name : List ℕ) (b : Blob) (d : Directory)

@@ -18,7 +18,7 @@ use Rattle.mail_store.specs.{
   declared.{maildir.disk.MaildirDisk.Ghosts as DiskGhosts, file.flat_file.FlatFile.Ghosts as FileGhosts},
 }
 use Rattle.pop3_wire.{
-  proofs.BodyLemmas.{IsLine-nil, one_reading},
+  proofs.BodyLemmas.{IsLine-nil, one_list_of_replies},
   specs.{Fields.number_and_size, World.IsMessage, Line.{IsLine, ended}, Place.{Place, at}, Reply.{indicator, without_space}},
   specs.declared.{reply.Status.TheVariants.Positive, command.Command.TheVariants.{ListAll, Pass, Stat, UidlAll, User}},
   specs.declared.wire.Wire.Ghosts as WireGhosts,
@@ -174,7 +174,7 @@ module _ {M : Type 0} (sound : M → Type 0) (mail : M → DropMail) (server : M
       let moved : flat_map reply_bytes heard
       ++ (mid.waiting ++ (on.gained ++ wire.left)) ≡ ((flat_map reply_bytes heard ++ mid.waiting) ++ on.gained) ++ wire.left =
       simp append_assoc in
-      let read = one_reading (opening name word) heard was.replies (mid.waiting ++ (on.gained ++ wire.left)) was.rest
+      let read = one_list_of_replies (opening name word) heard was.replies (mid.waiting ++ (on.gained ++ wire.left)) was.rest
       (reads_all (opening name word) heard opened.talked.good)
       (reads_all (opening name word) was.replies (goods n (opening name word) was.replies was.all))
       (moved ∙ ap (λ (l : List ℕ). l ++ wire.left) (sym got) ∙ was.is) in

@@ -44,13 +44,13 @@ files_left (h ∷ files) _ f (inr (g, rest, made, _, are)) (suc k, below, is) on
     rw made (later g rest f (files_left files _ f are (k, omega (arith, below), is) on))
 
 -- if the bytes of each file were durable, some of the files are left, each whole
-pub part_left : (files left : List File) → AllFlushed files → AreLeftAs files left → IsPart files left
-part_left [] _ _ are = ([], rw are tt)
-part_left (f ∷ files) _ all (inl (_, are)) =
-    let (others, is) = part_left files _ all.1 are in
+pub files_part_left : (files left : List File) → AllFlushed files → AreLeftAs files left → IsPart files left
+files_part_left [] _ _ are = ([], rw are tt)
+files_part_left (f ∷ files) _ all (inl (_, are)) =
+    let (others, is) = files_part_left files _ all.1 are in
     (f ∷ others, ([], files, reached_same (f ∷ files), is))
-part_left (f ∷ files) _ all (inr (g, rest, made, kept, are)) =
-    let (others, is) = part_left files _ all.1 are in
+files_part_left (f ∷ files) _ all (inr (g, rest, made, kept, are)) =
+    let (others, is) = files_part_left files _ all.1 are in
     let reaches : IsAsDurable f g = record {
       name = kept.name;
       content = kept.content all.0;
@@ -61,11 +61,11 @@ part_left (f ∷ files) _ all (inr (g, rest, made, kept, are)) =
     (others, rw made (without_more _ _ _ f g reaches is))
 
 -- if all is durable, all is left
-pub all_left : (files left : List File) → AllDurable files → AreLeftAs files left → left ≡ files
-all_left [] _ _ are = are
-all_left (f ∷ _) _ all (inl (gone, _)) = absurd (false≢true (cc))
-all_left (f ∷ files) _ all (inr (g, rest, made, kept, are)) =
-    made ∙ rw (left_same f g (all.0.0, all.1.0) kept, all_left files rest (all.0.1, all.1.1) are) refl
+pub files_all_left : (files left : List File) → AllDurable files → AreLeftAs files left → left ≡ files
+files_all_left [] _ _ are = are
+files_all_left (f ∷ _) _ all (inl (gone, _)) = absurd (false≢true (cc))
+files_all_left (f ∷ files) _ all (inr (g, rest, made, kept, are)) =
+    made ∙ rw (left_same f g (all.0.0, all.1.0) kept, files_all_left files rest (all.0.1, all.1.1) are) refl
 
 -- what is left is durable
 pub left_durable : (files left : List File) → AreLeftAs files left → AllDurable left

@@ -128,7 +128,7 @@ one_line line other rest more is is' e = first_line_same line other is is' (simp
 -- ---- a body ends at one place only, and reading line by line finds it
 
 -- the bytes begin with these lines of a body, which stand for the text, and the rest follows
-pub record Reads (bytes rest text : List ℕ) : Type 0 where
+pub record ReadsLines (bytes rest text : List ℕ) : Type 0 where
   pub lines : List (List ℕ)
   pub content : AllByRecursion IsContent lines
   pub whole : bytes ≡ flat_map ended lines ++ rest
@@ -159,7 +159,7 @@ first_lines (line ∷ lines) rest (other ∷ others) more content content' e =
     (later, are, cc, rest_is)
 
 -- lines of a body, followed by a line that never ends, hold no body
-pub no_body : (bytes rest text : List ℕ) → Reads bytes rest text → IsLine rest → HasNoBody bytes
+pub no_body : (bytes rest text : List ℕ) → ReadsLines bytes rest text → IsLine rest → HasNoBody bytes
 no_body bytes rest text reads line body other more is e =
     let first = first_lines reads.lines rest is.lines more reads.content is.content (sym reads.whole ∙ e
     ∙ rw is.whole (append_assoc (flat_map ended is.lines) (ended dot) more)) in
@@ -190,8 +190,8 @@ one_body a b s t x y left right e =
     (left.whole ∙ ap body_of same.0 ∙ sym right.whole, left.read ∙ ap text_of same.0 ∙ sym right.read, same.1)
 
 -- one more line was read
-pub reads_more : (bytes rest line after text : List ℕ) → Reads bytes rest text → IsLine line
-    → rest ≡ line ++ (crlf ++ after) → (line ≢ dot) → Reads bytes after (text ++ lf_line line)
+pub reads_more : (bytes rest line after text : List ℕ) → ReadsLines bytes rest text → IsLine line
+    → rest ≡ line ++ (crlf ++ after) → (line ≢ dot) → ReadsLines bytes after (text ++ lf_line line)
 reads_more bytes rest line after text reads is cut other = record {
   lines = reads.lines ++ line ∷ [];
   content = all_push reads.lines reads.content;
@@ -204,7 +204,7 @@ reads_more bytes rest line after text reads is cut other = record {
     all_push (first ∷ lines) content = (content.0, all_push lines content.1)
 
 -- the end mark was read
-pub reads_end : (bytes rest line after text : List ℕ) → Reads bytes rest text → rest ≡ line ++ (crlf ++ after) → line ≡ dot
+pub reads_end : (bytes rest line after text : List ℕ) → ReadsLines bytes rest text → rest ≡ line ++ (crlf ++ after) → line ≡ dot
     → (length bytes - length after ≤ length bytes) × Body (take (length bytes - length after) bytes) text
 reads_end bytes rest line after text reads cut is =
     let whole : bytes ≡ body_of reads.lines ++ after = reads.whole
@@ -241,9 +241,10 @@ unstuffed-push [] byte some = ⊎_elim (λ n. absurd (n refl)) (λ other. grind 
 unstuffed-push (b ∷ part) byte some = grind arith
 
 -- one more octet of the line that is read
-one_more : {bytes text part shown : List ℕ} (byte : ℕ) (given shown' : List ℕ) → Partly bytes text part shown → IsLine (part ++ byte ∷ [])
-    → shown' ≡ shown ++ given → Partly (bytes ++ byte ∷ []) (text ++ given) (part ++ byte ∷ []) shown'
-one_more {part} {shown} byte given shown' partly line more = record {
+one_octet_more : {bytes text part shown : List ℕ} (byte : ℕ) (given shown' : List ℕ)
+    → Partly bytes text part shown → IsLine (part ++ byte ∷ []) → shown' ≡ shown ++ given
+    → Partly (bytes ++ byte ∷ []) (text ++ given) (part ++ byte ∷ []) shown'
+one_octet_more {part} {shown} byte given shown' partly line more = record {
   lines = partly.lines;
   content = partly.content;
   line = line;
@@ -263,7 +264,7 @@ at_cr {part} given h other more =
       part = part;
       other = other;
       partly =
-          one_more 13 given (unstuffed part) h (IsLine-push part 13 h.line (inl (λ e. absurd (omega (arith, e))))) more;
+          one_octet_more 13 given (unstuffed part) h (IsLine-push part 13 h.line (inl (λ e. absurd (omega (arith, e))))) more;
     }
 
 -- an octet of a line that is no CR
@@ -275,7 +276,7 @@ in_line {part} given byte h no_cr apart other more = record {
   some = push-some part byte;
   other = other;
   no_cr = λ front e. no_cr (same_from_push part front byte 13 e).1;
-  partly = one_more byte given (unstuffed (part ++ byte ∷ [])) h (IsLine-push part byte h.line apart) more;
+  partly = one_octet_more byte given (unstuffed (part ++ byte ∷ [])) h (IsLine-push part byte h.line apart) more;
 }
 
 pub start_other : {bytes text : List ℕ} (byte : ℕ) → byte ≢ 46 → byte ≢ 13 → Partly bytes text [] []
@@ -284,7 +285,7 @@ start_other byte no_dot no_cr h = in_line (byte ∷ []) byte h no_cr (inr (λ fr
     (λ e. no_dot (same_from_push [] [] byte 46 e).1) (unstuffed-push [] byte (inr no_dot))
 
 pub dot_cr : {bytes text : List ℕ} → Partly bytes text dot [] → Partly (bytes ++ 13 ∷ []) (text ++ []) (46 ∷ 13 ∷ []) []
-dot_cr h = one_more 13 [] [] h (IsLine-push dot 13 IsLine-dot (inl (λ e. absurd (omega (arith, e))))) refl
+dot_cr h = one_octet_more 13 [] [] h (IsLine-push dot 13 IsLine-dot (inl (λ e. absurd (omega (arith, e))))) refl
 
 pub middle_cr : {bytes text : List ℕ} → InLine bytes text → AtCr (bytes ++ 13 ∷ []) (text ++ [])
 middle_cr h = at_cr [] h.partly h.other (sym (append-nil (unstuffed h.part)))
@@ -296,7 +297,7 @@ middle_other byte no_cr h =
 
 pub cr_lf : {bytes text : List ℕ} → AtCr bytes text → Partly (bytes ++ 10 ∷ []) (text ++ 10 ∷ []) [] []
 cr_lf {bytes} h =
-    let so_far : Reads (bytes ++ 10 ∷ []) (h.part ++ (crlf ++ [])) (text_of h.partly.lines) =
+    let so_far : ReadsLines (bytes ++ 10 ∷ []) (h.part ++ (crlf ++ [])) (text_of h.partly.lines) =
     record {
       lines = h.partly.lines;
       content = h.partly.content;
@@ -468,16 +469,16 @@ all_content : (lines : List (List ℕ)) → AllByRecursion HasNoLf lines → All
 all_content [] all = tt
 all_content (line ∷ lines) all = (stuffed_content line all.0, all_content lines all.1)
 
-read_back : (lines : List (List ℕ)) → text_of (map stuffed lines) ≡ flat_map (λ line. line ++ 10 ∷ []) lines
-read_back [] = refl
-read_back (line ∷ lines) = rw (stuffed_read line, read_back lines) refl
+stuffed_read_back : (lines : List (List ℕ)) → text_of (map stuffed lines) ≡ flat_map (λ line. line ++ 10 ∷ []) lines
+stuffed_read_back [] = refl
+stuffed_read_back (line ∷ lines) = rw (stuffed_read line, stuffed_read_back lines) refl
 
-joined : (text : List ℕ) → flat_map (λ line. line ++ 10 ∷ []) (lines_of_text text) ≡ whole_text text
-joined [] = refl
-joined (byte ∷ []) = grind (arith, nat_tests)
-joined (byte ∷ next ∷ rest) = elim (eqb_tells byte 10) [
-  | inl p ↦ rw (p.0, joined (next ∷ rest)) (ap (λ b. b ∷ whole_text (next ∷ rest)) (sym p.1))
-  | inr p ↦ rw p.0 (onto_first_joined (lines_of_text (next ∷ rest)) some_line ∙ ap (λ l. byte ∷ l) (joined (next ∷ rest)))
+lines_join : (text : List ℕ) → flat_map (λ line. line ++ 10 ∷ []) (lines_of_text text) ≡ whole_text text
+lines_join [] = refl
+lines_join (byte ∷ []) = grind (arith, nat_tests)
+lines_join (byte ∷ next ∷ rest) = elim (eqb_tells byte 10) [
+  | inl p ↦ rw (p.0, lines_join (next ∷ rest)) (ap (λ b. b ∷ whole_text (next ∷ rest)) (sym p.1))
+  | inr p ↦ rw p.0 (onto_first_joined (lines_of_text (next ∷ rest)) some_line ∙ ap (λ l. byte ∷ l) (lines_join (next ∷ rest)))
 ]
   where
     some_onto_first : (lines : List (List ℕ)) → onto_first next lines ≢ []
@@ -497,7 +498,7 @@ stuffed_is_body text = record {
   lines = map stuffed (lines_of_text text);
   content = all_content (lines_of_text text) (text_lines text);
   whole = ap (λ (b : List ℕ). b ++ ended dot) (sym (flat_map-map ended stuffed (lines_of_text text)));
-  read = sym (read_back (lines_of_text text) ∙ joined text);
+  read = sym (stuffed_read_back (lines_of_text text) ∙ lines_join text);
 }
 
 pub stuffed_is_read : StuffedIsRead
@@ -528,14 +529,14 @@ one_reply asked reply other x y is is' e =
     (λ good'. one_body_if (gives_body asked) reply.body other.body x y good.1 good'.1 firsts.1) is'.status) is.status in
     ((λ i. record { first = firsts.0 i; body = bodies.0 i }), bodies.1)
 
-pub one_reading : (asked : List (Option Command)) (replies others : List WholeReply) (rest more : List ℕ)
+pub one_list_of_replies : (asked : List (Option Command)) (replies others : List WholeReply) (rest more : List ℕ)
     → AllZip IsReplyTo asked replies → AllZip IsReplyTo asked others
     → flat_map reply_bytes replies ++ rest ≡ flat_map reply_bytes others ++ more → (replies ≡ others) × (rest ≡ more)
-one_reading [] [] [] rest more is is' e = (refl, e)
-one_reading (turn ∷ asked) (reply ∷ replies) (other ∷ others) rest more is is' e =
+one_list_of_replies [] [] [] rest more is is' e = (refl, e)
+one_list_of_replies (turn ∷ asked) (reply ∷ replies) (other ∷ others) rest more is is' e =
     let heads = one_reply turn reply other (flat_map reply_bytes replies ++ rest) (flat_map reply_bytes others ++ more) is.0 is'.0
     (sym (append_assoc (reply_bytes reply) (flat_map reply_bytes replies) rest) ∙ e
     ∙ append_assoc (reply_bytes other) (flat_map reply_bytes others) more) in
-    let tails = one_reading asked replies others rest more is.1 is'.1 heads.1 in
+    let tails = one_list_of_replies asked replies others rest more is.1 is'.1 heads.1 in
     (cc, tails.1)
-one_reading asked replies others rest more is is' e = absurd (grind (arith, is, is'))
+one_list_of_replies asked replies others rest more is is' e = absurd (grind (arith, is, is'))

@@ -286,9 +286,9 @@ front_length test [] (byte ∷ rest) all stops = cond-false _ _ _ (stops byte re
 front_length test (byte ∷ front) rest all stops =
     grind (arith, all, λ (h : list_all test front ≡ true). front_length test front rest h stops)
 
-front_taken : (test : ℕ → Bool) (front rest : List ℕ) → list_all test front ≡ true → Stops test rest
+taken_while : (test : ℕ → Bool) (front rest : List ℕ) → list_all test front ≡ true → Stops test rest
     → take_while test (front ++ rest) ≡ front
-front_taken test front rest all stops = ap (λ (n : ℕ). take n (front ++ rest)) (front_length test front rest all stops)
+taken_while test front rest all stops = ap (λ (n : ℕ). take n (front ++ rest)) (front_length test front rest all stops)
     ∙ take_at front rest (length front) refl
 
 front_passed : (test : ℕ → Bool) (front rest : List ℕ) → list_all test front ≡ true → Stops test rest → past test (front ++ rest) ≡ rest
@@ -296,11 +296,11 @@ front_passed test front rest all stops = ap (λ (n : ℕ). drop n (front ++ rest
     ∙ drop_at front rest (length front) refl
 
 -- the field begins with a byte that isn't a space
-Begins : List ℕ → Type 0
-Begins field = (byte : ℕ) × (more : List ℕ) × (field ≡ byte ∷ more) × (is_space byte ≡ false)
+BeginsField : List ℕ → Type 0
+BeginsField field = (byte : ℕ) × (more : List ℕ) × (field ≡ byte ∷ more) × (is_space byte ≡ false)
 
-next_read : (spaces field : List ℕ) → AreSpaces spaces → Begins field → next_field (spaces ++ field) ≡ Ok field
-unfolding next_field Begins
+next_read : (spaces field : List ℕ) → AreSpaces spaces → BeginsField field → next_field (spaces ++ field) ≡ Ok field
+unfolding next_field BeginsField
 next_read spaces field blank (byte, more, is, other) =
     rw (front_passed is_space spaces field blank (λ c after e. let same : byte ≡ c = cc in rw (← same) other)) (cond-false _ _ _ some)
   where
@@ -319,8 +319,8 @@ digits_in_field : (digits : List ℕ) → list_all is_ascii_digit digits ≡ tru
 digits_in_field = all_pass is_ascii_digit is_in_field (λ byte e. grind (arith, nat_tests))
 
 -- bytes of a field, one or more of them, and what follows
-begins : (front rest : List ℕ) → nat_lt 0 (length front) ≡ true → list_all is_in_field front ≡ true → Begins (front ++ rest)
-unfolding Begins
+begins : (front rest : List ℕ) → nat_lt 0 (length front) ≡ true → list_all is_in_field front ≡ true → BeginsField (front ++ rest)
+unfolding BeginsField
 begins [] rest some all = absurd (let none : 0 < 0 = ltb-true 0 0 some in omega arith)
 begins (byte ∷ front) rest some all = (
   byte,
@@ -348,7 +348,7 @@ message_read line n rest form =
     let ends : Stops is_in_field (form.gap ++ rest) = spaces_end_field form.gap rest form.apart form.some in
     ap message_number form.whole ∙ rw (next_read form.indent (form.digits ++ (form.gap ++ rest)) form.before
     (begins form.digits (form.gap ++ rest) digits.0 field)) (rw (
-      front_taken is_in_field form.digits (form.gap ++ rest) field ends,
+      taken_while is_in_field form.digits (form.gap ++ rest) field ends,
       number_read greatest_number form.digits n form.counted,
       front_passed is_in_field form.digits (form.gap ++ rest) field ends,
     ))
@@ -367,7 +367,7 @@ unfolding number_and_size
 scan_form_read line n size form =
     let digits = digits_of form.digits form.sized.numeral in
     (field_read line n form.digits form.behind form.front digits.0 (digits_in_field form.digits digits.1) _).1
-    ∙ rw (front_taken is_ascii_digit form.digits form.behind digits.1 form.over, number_read greatest_size form.digits size form.sized)
+    ∙ rw (taken_while is_ascii_digit form.digits form.behind digits.1 form.over, number_read greatest_size form.digits size form.sized)
 
 pub uid_form_read : (line : List ℕ) (n : ℕ) (uid : List ℕ) → HasUidForm line n uid → number_and_id line ≡ Ok (n, uid)
 unfolding number_and_id legal_id nothing_more
@@ -377,7 +377,7 @@ uid_form_read line n uid form =
     let ends : Stops is_in_field form.behind = λ byte more e. spaces_end_field form.behind [] form.over
     (λ none. cc) byte more (append-nil form.behind ∙ e) in
     (field_read line n uid form.behind form.front bytes.0 field _).1 ∙ rw (
-      front_taken is_in_field uid form.behind field ends,
+      taken_while is_in_field uid form.behind field ends,
       form.legal,
       front_passed is_in_field uid form.behind field ends,
       ap (past is_space) (sym (append-nil form.behind)) ∙ front_passed is_space form.behind [] form.over (λ byte more e. absurd (cc)),

@@ -46,7 +46,7 @@ pub fn read_status(line: &[u8]) -> Result<(Status, &[u8]), WireFault>
 
 /// Octets split into whole replies to given commands in one way only: a first line, and after a
 /// positive one the body that its command asks for.
-#[tactic(auto, using(crate::proofs::BodyLemmas::one_reading))]
+#[tactic(auto, using(crate::proofs::BodyLemmas::one_list_of_replies))]
 pub fn only_one_reading()
     ensures { OneReading }
 {}

@@ -72,8 +72,8 @@ drop_past (octet ∷ front) mark rest =
     let step : suc (length front) + 1 ≡ suc (length front + 1) = omega arith in
     rw step (drop_past front mark rest)
 
-cut_front : (mark : ℕ) (front rest : List ℕ) → HasNo mark front → before_first (λ octet. octet == mark) (front ++ mark ∷ rest) ≡ front
-cut_front mark front rest none = ap (λ (n : ℕ). take n (front ++ mark ∷ rest)) (position_at mark front rest none)
+before_mark : (mark : ℕ) (front rest : List ℕ) → HasNo mark front → before_first (λ octet. octet == mark) (front ++ mark ∷ rest) ≡ front
+before_mark mark front rest none = ap (λ (n : ℕ). take n (front ++ mark ∷ rest)) (position_at mark front rest none)
     ∙ take-append_seam front (mark ∷ rest)
 
 cut_rest : (mark : ℕ) (front rest : List ℕ) → HasNo mark front → after_first (λ octet. octet == mark) (front ++ mark ∷ rest) ≡ rest
@@ -98,9 +98,9 @@ numbers_read a b c are =
     let no_b = HasNo-decimal 32 (omega arith) b are.two_fits in
     rw (
       cut_rest 32 (decimal a) (decimal b ++ 32 ∷ decimal c) no_a,
-      cut_front 32 (decimal a) (decimal b ++ 32 ∷ decimal c) no_a,
+      before_mark 32 (decimal a) (decimal b ++ 32 ∷ decimal c) no_a,
       cut_rest 32 (decimal b) (decimal c) no_b,
-      cut_front 32 (decimal b) (decimal c) no_b,
+      before_mark 32 (decimal b) (decimal c) no_b,
       numeral_value-decimal a are.one_fits,
       numeral_value-decimal b are.two_fits,
       numeral_value-decimal c are.three_fits,
@@ -137,7 +137,7 @@ fault_fields f is =
     let numbers = numbers_text f.times.since f.times.told f.times.runs in
     rw (
       cut_rest 32 f.key numbers none,
-      cut_front 32 f.key numbers none,
+      before_mark 32 f.key numbers none,
       key_read f.key is.key,
       numbers_read f.times.since f.times.told f.times.runs is.times,
     ) refl
@@ -158,7 +158,7 @@ notice_fields n is =
     let none = HasNo-key 32 (omega arith) n.key is.key in
     rw (
       cut_rest 32 n.key (decimal n.told) none,
-      cut_front 32 n.key (decimal n.told) none,
+      before_mark 32 n.key (decimal n.told) none,
       key_read n.key is.key,
       numeral_value-decimal n.told is.told,
     ) refl

@@ -14,7 +14,7 @@ use Rattle.rc_file.specs.declared.settings.Settings.{Settings}
 use Rattle.fetch_record.specs.{Record.{Loaded, RecordState, Row}, RecordGrowth.OneMeaning}
 use Rattle.fetch_rules.specs.{Plan.{fetches, planned, retrieved, step_of}, Wanted.wanted, declared.plans.Step.Step}
 use Rattle.pop3_wire.{
-  proofs.BodyLemmas.{first_lines, IsLine-front, no_body, one_line, one_reading, two_statuses},
+  proofs.BodyLemmas.{first_lines, IsLine-front, no_body, one_line, one_list_of_replies, two_statuses},
   specs.{Body.{HasNoBody, IsContent, body_of, dot, text_of}, Line.{crlf, IsLine, ended}, Link.Link, Fields.number_and_size},
   specs.{Place.{Place, at}, Reading.{IsBodyIf, IsReplyTo, WholeReply, body_bytes, gives_body, reply_bytes}},
   specs.Reply.{IsFirstLine, indicator, without_space},
@@ -283,8 +283,8 @@ extends_on old _ _ first later = record {
 }
 
 -- a session that was cut didn't end, and was cut by one fault
-not_ended : (fault : Fault) → Ended ≡ WasCut fault → ⊥
-not_ended fault is = cc
+cut_not_ended : (fault : Fault) → Ended ≡ WasCut fault → ⊥
+cut_not_ended fault is = cc
 
 same_fault : (a b : Fault) → WasCut a ≡ WasCut b → a ≡ b
 same_fault a b is = cc
@@ -298,8 +298,8 @@ sent_apart : (sent : List ℕ) (turns : List Turn) (next : Turn) (said : List �
     → ((sent ++ asking turns) ++ turn_bytes next) ++ said ≡ sent ++ (asking (turns ++ next ∷ []) ++ said)
 sent_apart sent turns next said = simp (flat_map-append, append_assoc, append-nil)
 
-apart : (a b c d e : List ℕ) → (((a ++ b) ++ c) ++ d) ++ e ≡ a ++ (b ++ (c ++ (d ++ e)))
-apart a b c d e = simp append_assoc
+five_joined : (a b c d e : List ℕ) → (((a ++ b) ++ c) ++ d) ++ e ≡ a ++ (b ++ (c ++ (d ++ e)))
+five_joined a b c d e = simp append_assoc
 
 module _ (paced : ConversationsArePaced) (settings : Settings) (target : Target) (now : ℕ) (link : Link) (before : Keeping)
     (report : Report) (link' : Link) (after : Keeping) (done : SessionIn settings target now link before report link' after) where
@@ -322,7 +322,7 @@ module _ (paced : ConversationsArePaced) (settings : Settings) (target : Target)
       by : (result : Result (Unit {0}) Cut) → Proceeds settings target now (at link []) before result mid after done.notes
           → LeavesLink result mid link' → report.outcome ≡ outcome_of result
           → Extends mid.link link' × (tail fault ≡ Nothing → link' ≡ mid.link)
-      by (Ok unit) proceeds leaves outcome = absurd (not_ended fault (sym outcome ∙ is))
+      by (Ok unit) proceeds leaves outcome = absurd (cut_not_ended fault (sym outcome ∙ is))
       by (Err cut) proceeds (new, left, link_is) outcome =
           let same = same_fault cut.fault fault (sym outcome ∙ is) in
           elim (rest_of cut proceeds) [
@@ -372,12 +372,12 @@ module _ (paced : ConversationsArePaced) (settings : Settings) (target : Target)
             let got_is : link'.got ++ was.later ≡ link.got ++ (talked.gained ++ after) =
             ap (λ (l : List ℕ). l ++ was.later) (on.got
             ∙ ap (λ (l : List ℕ). l ++ on.gained) (not.got ∙ ap (λ (l : List ℕ). l ++ not.gained) talked.got))
-            ∙ apart link.got talked.gained not.gained on.gained was.later in
+            ∙ five_joined link.got talked.gained not.gained on.gained was.later in
             let all : talked.gained ++ after ≡ flat_map reply_bytes was.replies ++ was.rest =
             append_cancel_left link.got _ _ (sym got_is ∙ was.whole) in
             let last : flat_map reply_bytes (front ++ reply ∷ []) ++ was.rest ≡ flat_map reply_bytes front
             ++ (reply_bytes reply ++ was.rest) = last_apart reply_bytes front reply was.rest in
-            let read = one_reading turns replies front (old.waiting ++ after) (reply_bytes reply ++ was.rest)
+            let read = one_list_of_replies turns replies front (old.waiting ++ after) (reply_bytes reply ++ was.rest)
             (reads_all turns replies talked.good) (reads_all turns front goods)
             (sym (append_assoc (flat_map reply_bytes replies) old.waiting after) ∙ ap (λ (l : List ℕ). l ++ after) (sym talked.heard) ∙ all
             ∙ ap (λ (rs : List WholeReply). flat_map reply_bytes rs ++ was.rest) replies_are ∙ last) in
@@ -557,4 +557,4 @@ store_all causes paced one fetch_wanted settings target now link before report l
               (all_brought target carried.prepared.was dealt.items before.store carried.mid.store after.store all.dones
               carried.prepared.settles all.went.stored all.went.each))));
         }
-    by_result ended (Err cut) proceeds leaves is = absurd (not_ended cut.fault (sym ended ∙ is))
+    by_result ended (Err cut) proceeds leaves is = absurd (cut_not_ended cut.fault (sym ended ∙ is))

@@ -20,7 +20,7 @@ use Rattle.mail_store.{
 use Rattle.folder_store.{
   specs.FileFolder.{Directory, DirEntry, names_in, find, placed, AltersInPart, with_blob, Older, entry},
   specs.PowerLoss.{WasOnce, Loses, left_under},
-  proofs.Files.{may_now, may_once, find_here, find_later},
+  proofs.Files.{may_be_now, may_be_older, find_here, find_later},
 }
 
 differ : (one two : List ℕ) → (one ≡ two → ⊥) → bytes_eq one two ≡ false
@@ -273,6 +273,6 @@ memory_loses files left was now distinct h e =
       each = λ name.
           let s = found name in
           let d = memory_in files was in
-          rw (s.1, seen_all s.0) (⊎_elim (may_now d name s.0) (may_once d name s.0) s.2);
+          rw (s.1, seen_all s.0) (⊎_elim (may_be_now d name s.0) (may_be_older d name s.0) s.2);
       durable = λ name. let s = found name in record { named = refl; flushed = rw s.1 (flushed_all s.0) };
     })

@@ -1,7 +1,7 @@
 use Rattle.std.proofs.Common.{Ok, rules}
 use Rattle.mail_store.specs.declared.maildir.disk.Folder.TheVariants.{New, Cur}
 use Rattle.folder_store.proofs.{
-  MailCalls.{Learned, lacked, leads_learns, learned, learns_same, lists_learns, looked},
+  MailCalls.{Learned, lacked, leads_learns, learned, learns_same, lists_learns, both_listed},
   MailMoves.moved_same,
   durable_names.look_at_both.{Given.Over, Goals.{In_ok-in_new, In_ok-in_cur, In_ok-rests}},
 }
@@ -46,6 +46,6 @@ returns-clause-looks g c = λ s.
     let t2 = c.in_ok-in_cur.ensures.lists t3.0 in
     let t1 = c.in_ok-in_new.ensures.lists t2.0 in
     let all = by_all g (goal.at.returns-clause-looks g c).In_ok-rests s in
-    let both = looked c.args.sought _ _ _ _ c.in_ok-in_new.in_new c.in_ok-in_cur.in_cur c.in_ok-rests.field-0
+    let both = both_listed c.args.sought _ _ _ _ c.in_ok-in_new.in_new c.in_ok-in_cur.in_cur c.in_ok-rests.field-0
     t1.1 t2.1 t3.1 (search rules) in
     (all.0, (all.1, both, tt))

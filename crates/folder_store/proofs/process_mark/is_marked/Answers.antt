@@ -1,5 +1,5 @@
 use Rattle.std.proofs.{Common.{◌∙◌, sym}, lemmas.Bool.false≢true}
-use Rattle.folder_store.proofs.Marking.{its_parts, marked, unmarked, unparted}
+use Rattle.folder_store.proofs.Marking.{its_parts, marked, ends_in_no_mark, unparted}
 use Rattle.folder_store.proofs.process_mark.is_marked.Goals as goal
 
 pub returns-in_default : goal.returns-in_default
@@ -8,7 +8,7 @@ returns-in_default c = (λ is. absurd (false≢true is), λ has. absurd (unparte
 pub returns-in-None : goal.returns-in-None
 returns-in-None c = (
   λ is. absurd (false≢true is),
-  λ has. absurd (unmarked c.args.name.now c.in-Some.mark.now c.in-Some.ensures.0 c.in-Some.ensures.1 c.in-None.ensures has),
+  λ has. absurd (ends_in_no_mark c.args.name.now c.in-Some.mark.now c.in-Some.ensures.0 c.in-Some.ensures.1 c.in-None.ensures has),
 )
 
 pub returns-then-is_id : goal.returns-then-is_id

@@ -3,9 +3,9 @@ use Rattle.std.proofs.{KnownBytes.Appends-kept, KnownBytes.Appends-trans, lemmas
 use Rattle.getmail_setup.proofs.output.write_octets.Goals as goal
 use Rattle.getmail_setup.proofs.output.write_octets.Goals.{in-Ok, in-Err}
 
-moves_front : (all front rest : List ℕ) (n : ℕ) → all ≡ front ++ rest
+front_grows : (all front rest : List ℕ) (n : ℕ) → all ≡ front ++ rest
     → all ≡ (front ++ take n rest) ++ take (length rest - n) (drop n rest)
-moves_front all front rest n is = is ∙ ap (λ (l : List ℕ). front ++ l) (sym (take-append-drop n rest))
+front_grows all front rest n is = is ∙ ap (λ (l : List ℕ). front ++ l) (sym (take-append-drop n rest))
     ∙ sym (append_assoc front (take n rest) (drop n rest))
     ∙ ap (λ (l : List ℕ). (front ++ take n rest) ++ l) (sym (take_rest rest n))
 
@@ -16,7 +16,7 @@ loop-preserved g c =
     elim c.match-write.branch [
       | in-Ok w ↦ (
         front ++ take w.in-Ok.taken rest,
-        rw w.rest-is (moves_front _ front rest w.in-Ok.taken split),
+        rw w.rest-is (front_grows _ front rest w.in-Ok.taken split),
         Appends-trans _ _ _ _ _ wrote (rw w.in-Ok.is at c.write.ensures.bytes),
       )
       | in-Err w ↦ (front, rw w.rest-is split, Appends-kept _ _ _ _ wrote (rw w.in-Err.is at c.write.ensures.bytes))
