@@ -98,6 +98,10 @@ pub trait Device {
     /// Is refused or not.
     fn flush(&mut self) -> Result<(), Fault>
         ensures { Flushed 3 };
+
+    fn note(&mut self)
+        ensures kept { sound self.new → sound self.old × Kept }
+    {}
 }
 
 /// Real.
@@ -212,15 +216,15 @@ def test_contracts(sources):
 
 
 def test_axioms(sources):
-    """What is assumed of a device is what its trait says under the premise; the code for it is uncovered, and so is what has
-    no contract."""
+    """What is assumed of a device is what its trait says under the premise, but of a body in the trait; the code for it is
+    uncovered, and so is what has no contract."""
     programs = axioms.Programs(sources, ["low", "high"])
     assert [line.split() for line in axioms.assumptions(programs) if line] == [
-        "Real, a Device (crates/high/src/device.rt): 1 clauses are assumed, 3 are proved".split(),
+        "Real, a Device (crates/high/src/device.rt): 1 clauses are assumed, 4 are proved".split(),
         "1 read reads Hidden { }".split()]
     assert list(axioms.premises(programs)) == ["  Over, a Device (crates/high/src/device.rt): λ d. D.sound d.0"]
     assert list(axioms.excuses(programs)) == ["  Device: flush may be refused"]
-    assert list(axioms.uncovered_code(programs)) == ["  high 12: device.rt 12", "  12 lines in all, of 25 of functions"]
+    assert list(axioms.uncovered_code(programs)) == ["  high 12: device.rt 12", "  12 lines in all, of 28 of functions"]
     assert [axioms.PINS_NOTHING.fullmatch(clause) is None for clause in (
         "result ≡ 3", "IsTrue result ↔ a.now < 3", "IfErr result (λ e. e ≡ found.now)", "result ≤ 2", "Tallies a b c",
         "IfErr result (λ e. e ≡ Fault.Refused)", "IsTrue result → length a.now ≤ 4",
