@@ -23,8 +23,10 @@ use Rattle.fetch_record.specs.Record.{Row, is_delivered}
 use Rattle.fetch_rules.specs.{
   Due.{is_due, may_delete},
   Laws.{FetchesAsked, FetchesFirsts},
-  Plan.{fetches, is_deleted, planned, retrieved, step_of},
-  Wanted.{WantedAreFirst, at_most, is_candidate, is_full, is_within, none_odd, own_skip, skip_for, skip_of, wanted},
+  Limits.{AllowsAlone, LimitsSizes, SetsLimits, SetsNoLimits},
+  Plan.{fetches, is_deleted, may_be_deleted, planned, retrieved, step_of},
+  Wanted.{WantedAreFirst, allows_size, at_most, is_candidate, is_full, is_within, none_odd, own_skip, skip_for, skip_of, up_to},
+  Wanted.wanted,
   declared.plans.{Skip.{Skip, TheVariants.{Delivered, Obstructed, TooLarge, PastLimit, SameId}}, Step.Step},
 }
 
@@ -36,8 +38,8 @@ Message = ℕ × Item
 -- to be read
 pub own_passes : (settings : Settings) (odd : Bool) (is_known : List ℕ → Bool) (uid : List ℕ) (size : ℕ)
     → is_none (own_skip settings odd is_known uid size)
-    ≡ not (not settings.read_all && is_known uid) && (not odd && is_within settings.max_size size)
-own_passes settings odd is_known uid size = by (not settings.read_all && is_known uid) odd (is_within settings.max_size size)
+    ≡ not (not settings.read_all && is_known uid) && (not odd && allows_size settings size)
+own_passes settings odd is_known uid size = by (not settings.read_all && is_known uid) odd (allows_size settings size)
   where
     by : (known odd within : Bool)
         → is_none (if known then Some Delivered else if odd then Some Obstructed else if not within then Some TooLarge else None)
@@ -292,7 +294,7 @@ first_at settings is_odd rows listing front rest i k is at fetched =
       rw (is, at, take_at front (i ∷ rest) (length front + 1 - 1) (omega arith)) at
           (not-true (has_item (take (k - 1) listing) i.uid) parts.1),
       asked settings.read_all (is_delivered rows i.uid) (and_parts (not (not settings.read_all && is_delivered rows i.uid))
-          (not (is_odd i.uid) && is_within settings.max_size i.size)
+          (not (is_odd i.uid) && allows_size settings i.size)
           (sym (own_passes settings (is_odd i.uid) (is_delivered rows) i.uid i.size) ∙ parts.0)).0,
     )
   where
@@ -492,6 +494,59 @@ wanted-first settings is_odd rows listing distinct =
 
     same : (m : Message) → is_first listing m ≡ true → is_candidate settings is_odd rows listing m ≡ own m
     same m first = ap (λ (b : Bool). own m && b) first ∙ and-true (own m)
+
+-- ---- what the rules are under limits that are known
+
+pub sizes_within : (settings : Settings) (limit : ℕ) → LimitsSizes settings limit → (size : ℕ)
+    → allows_size settings size ≡ is_within limit size
+sizes_within settings limit limits size = rw limits refl
+
+pub at_most_firsts : {X : Type 0} {settings : Settings} {size count : ℕ} → SetsLimits settings size count → (size_of : X → ℕ) (xs : List X)
+    (n : ℕ) → length xs ≤ n → at_most settings size_of xs ≡ take (up_to count n) xs
+at_most_firsts {count = count} limits size_of xs n fits = rw limits.number (elim (cases_Bool (count == 0)) [
+  | inl none ↦ rw none (take_all _ xs (omega (arith, length-map xs size_of)) ∙ sym (take_all n xs fits))
+  | inr some ↦ rw some refl
+])
+
+pub at_most_all : {X : Type 0} {settings : Settings} → SetsNoLimits settings → (size_of : X → ℕ) (xs : List X)
+    → at_most settings size_of xs ≡ xs
+at_most_all limits size_of xs = at_most_firsts limits size_of xs (length xs) (omega arith) ∙ take_all (length xs) xs (omega arith)
+
+some_taken : {X : Type 0} (count : ℕ) (x : X) → (count == 0) ≡ false → take count (x ∷ []) ≡ x ∷ []
+some_taken zero x never = absurd (true≢false never)
+some_taken (suc zero) x some = refl
+some_taken (suc (suc count)) x some = refl
+
+pub at_most_one : {X : Type 0} (settings : Settings) (size_of : X → ℕ) (x : X) → AllowsAlone settings (size_of x)
+    → at_most settings size_of (x ∷ []) ≡ x ∷ []
+at_most_one settings size_of x fits = elim (cases_Bool (settings.max_count == 0)) [
+  | inl none ↦ rw none refl
+  | inr some ↦ rw some (some_taken settings.max_count x some)
+]
+
+pub allows_alone : (settings : Settings) (size : ℕ) → AllowsAlone settings size → allows_size settings size ≡ true
+allows_alone settings size fits = fits
+
+-- if all is deleted at once, without limits and with nothing obstructed, each message is deleted
+module _ (settings : Settings) (is_odd : List ℕ → Bool) (rows : List Row) (listing : List Item) (now : ℕ)
+    (delete : settings.delete ≡ true) (limits : SetsNoLimits settings) (clear : (id : List ℕ) → is_odd id ≡ false) where
+  known_or_not : (all known : Bool) → (may_be_deleted known (option_or (if not all && known then Some Delivered
+      else if false then Some Obstructed else if not true then Some TooLarge else None)
+      (if false then Some PastLimit else if true then None else Some SameId)) && (true && true)) ≡ true
+  known_or_not true true = refl
+  known_or_not true false = refl
+  known_or_not false true = refl
+  known_or_not false false = refl
+
+  deletes : (message : Message) → is_first listing message ≡ true → is_last listing message ≡ true
+      → (step_of settings is_odd rows listing now message).delete ≡ true
+  deletes message first last = rw (delete, limits.sizes, limits.number, first, last, clear message.1.uid)
+      (known_or_not settings.read_all (is_delivered rows message.1.uid))
+
+  pub all_deleted : HasDistinctIds listing → All (λ message. (step_of settings is_odd rows listing now message).delete ≡ true)
+      (numbered listing)
+  all_deleted distinct = λ k d inside. deletes (get_or (numbered listing) k d) (are_first listing distinct k d inside)
+      (are_last listing distinct k d inside)
 
 -- ---- rows are joined in one way
 

@@ -14,13 +14,21 @@ use Rattle.fetch_rules.specs.declared.plans.Skip.TheVariants.{Delivered, Obstruc
 abbrev pub is_within : ℕ → ℕ → Bool
 is_within limit size = limit == 0 || nat_le size limit
 
+-- whether the limit on a message's size lets one of this size be fetched
+abbrev pub allows_size : Settings → ℕ → Bool
+allows_size settings size = is_within settings.max_size size
+
 -- whether a session that may fetch so many messages fetches none after them; 0 sets no limit
 abbrev pub is_full : Settings → ℕ → Bool
 is_full settings count = not (settings.max_count == 0) && nat_le settings.max_count count
 
+-- how many of so many messages a limit on their number leaves, or more; 0 sets none
+abbrev pub up_to : ℕ → ℕ → ℕ
+up_to limit count = if limit == 0 then count else limit
+
 -- how many of messages of these listed sizes a session fetches if it may fetch all, or more
 abbrev pub fitting : Settings → List ℕ → ℕ
-fitting settings sizes = if settings.max_count == 0 then length sizes else settings.max_count
+fitting settings sizes = up_to settings.max_count (length sizes)
 
 -- the first of a list of messages, as many as a session fetches if it may fetch all
 abbrev pub at_most : {X : Type 0} → Settings → (X → ℕ) → List X → List X
@@ -31,7 +39,7 @@ at_most settings size messages = take (fitting settings (map size messages)) mes
 abbrev pub own_skip : Settings → Bool → (List ℕ → Bool) → List ℕ → ℕ → Option Skip
 own_skip settings odd is_known uid size =
     if not settings.read_all && is_known uid then Some Delivered else if odd then Some Obstructed
-    else if not (is_within settings.max_size size) then Some TooLarge
+    else if not (allows_size settings size) then Some TooLarge
     else None
 
 -- why a message isn't fetched, if there is a reason, by whether it is the first with its id, and whether a session is
