@@ -64,8 +64,8 @@ files_part_left (f ∷ files) _ all (inr (g, rest, made, kept, are)) =
 pub files_all_left : (files left : List File) → AllDurable files → AreLeftAs files left → left ≡ files
 files_all_left [] _ _ are = are
 files_all_left (f ∷ _) _ all (inl (gone, _)) = absurd (false≢true (cc))
-files_all_left (f ∷ files) _ all (inr (g, rest, made, kept, are)) =
-    made ∙ rw (left_same f g (all.0.0, all.1.0) kept, files_all_left files rest (all.0.1, all.1.1) are) refl
+files_all_left (f ∷ files) _ ((named, names), (flushed, contents)) (inr (g, rest, made, kept, are)) =
+    made ∙ rw (left_same f g (named, flushed) kept, files_all_left files rest (names, contents) are) refl
 
 -- what is left is durable
 pub left_durable : (files left : List File) → AreLeftAs files left → AllDurable left

@@ -103,16 +103,11 @@ ended_lines : (front : List ℕ) → (line : List ℕ) × (lines : List (List �
     × (lines_of (front ++ 10 ∷ []) ≡ line ∷ lines) × AllByRecursion IsMboxLine (line ∷ lines)
 ended_lines [] = (10 ∷ [], [], refl, (empty_line, tt))
 ended_lines (byte ∷ front) =
-    let later = ended_lines front in elim (eqb_tells byte 10) [
-      | inl p ↦ (10 ∷ [], later.0 ∷ later.1, rw (p.0, later.2) refl, (empty_line, later.3))
+    let (line, lines, are, (first, others)) = ended_lines front in elim (eqb_tells byte 10) [
+      | inl p ↦ (10 ∷ [], line ∷ lines, rw (p.0, are) refl, (empty_line, (first, others)))
       | inr p ↦
-          let more : IsMboxLine (byte ∷ later.0) = record {
-            words = byte ∷ later.3.0.words;
-            plain =
-                (p.1, later.3.0.plain);
-            ended = cc;
-          } in
-          (byte ∷ later.0, later.1, rw (p.0, later.2) refl, (more, later.3.1))
+          let more : IsMboxLine (byte ∷ line) = record { words = byte ∷ first.words; plain = (p.1, first.plain); ended = cc } in
+          (byte ∷ line, lines, rw (p.0, are) refl, (more, others))
     ]
 
 pub whole_lines : (text : List ℕ) → IsWhole text → AllByRecursion IsMboxLine (lines_of text)
@@ -301,18 +296,18 @@ group_first group rest head lines = rw (flat_map_more (λ (line : List ℕ). lin
 pub groups_lines : (groups : List Group) → AllByRecursion IsMboxGroup groups
     → lines_of (flat_map group_bytes groups) ≡ flat_map group_lines groups
 groups_lines [] are = refl
-groups_lines (group ∷ groups) are =
-    rw (group_first group (flat_map group_bytes groups) are.0.0.0 (inner_lines group.lines are.0.1), groups_lines groups are.1) refl
+groups_lines (group ∷ groups) (((head, _), inner), are) =
+    rw (group_first group (flat_map group_bytes groups) head (inner_lines group.lines inner), groups_lines groups are) refl
 
 -- ---- lists of lines are grouped in one way only
 
 pub inner_apart : (lines : List (List ℕ)) → AllByRecursion IsInner lines → AllByRecursion IsApart (lines ++ (10 ∷ []) ∷ [])
 inner_apart [] _ = (refl, tt)
-inner_apart (_ ∷ lines) all = (all.0.1, inner_apart lines all.1)
+inner_apart (_ ∷ lines) ((_, apart), all) = (apart, inner_apart lines all)
 
 pub opens_groups : (groups : List Group) → AllByRecursion IsMboxGroup groups → OpensEntry (flat_map group_lines groups)
 opens_groups [] are = tt
-opens_groups (_ ∷ groups) are = are.0.0.1
+opens_groups (_ ∷ groups) (((_, opens), _), _) = opens
 
 pub same_span : (xs ys rest other : List (List ℕ)) → AllByRecursion IsApart xs → AllByRecursion IsApart ys
     → OpensEntry rest → OpensEntry other → xs ++ rest ≡ ys ++ other → (xs ≡ ys) × (rest ≡ other)
@@ -326,9 +321,9 @@ same_span (x ∷ xs) (y ∷ ys) rest other apart others opens begins e =
 same_texts : (groups others : List Group) → AllByRecursion IsMboxGroup groups → AllByRecursion IsMboxGroup others
     → flat_map group_lines groups ≡ flat_map group_lines others → map group_text groups ≡ map group_text others
 same_texts [] [] are _ e = refl
-same_texts (group ∷ groups) (other ∷ others) are be e =
-    let span = same_span _ _ _ _ (inner_apart _ are.0.1) (inner_apart _ be.0.1) (opens_groups _ are.1) (opens_groups _ be.1) (cc) in
-    cc (append_cancel_right group.lines other.lines ((10 ∷ []) ∷ []) span.0, same_texts groups others are.1 be.1 span.1)
+same_texts (group ∷ groups) (other ∷ others) ((_, inner), are) ((_, also), be) e =
+    let (same, rest) = same_span _ _ _ _ (inner_apart _ inner) (inner_apart _ also) (opens_groups _ are) (opens_groups _ be) (cc) in
+    cc (append_cancel_right group.lines other.lines ((10 ∷ []) ∷ []) same, same_texts groups others are be rest)
 same_texts groups _ are _ e = absurd (cc)
 
 pub one_reading : OneListOfTexts
@@ -394,19 +389,17 @@ abbrev pub EndsTwice : List ℕ → Type 0
 EndsTwice bytes = (front : List ℕ) × (bytes ≡ front ++ 10 ∷ 10 ∷ [])
 
 pub group_ends : (group : Group) → IsMboxGroup group → EndsTwice (group_bytes group)
-group_ends group is =
-    let ended = lines_end _ _ is.0.0 (inner_lines _ is.1) in (
-      ended.0,
-      cc (append_assoc group.head (joined group.lines) (10 ∷ []), append_assoc ended.0 (10 ∷ []) (10 ∷ [])),
-    )
+group_ends group ((head, _), inner) =
+    let (front, ends) = lines_end _ _ head (inner_lines _ inner) in
+    (front, cc (append_assoc group.head (joined group.lines) (10 ∷ []), append_assoc front (10 ∷ []) (10 ∷ [])))
 
 pub groups_go_on : (groups : List Group) → AllByRecursion IsMboxGroup groups → MayGoOn (flat_map group_bytes groups)
 groups_go_on [] are = inl refl
-groups_go_on (group ∷ groups) are = inr (
-  rw (begins_with group.head are.0.0.1) refl,
-  elim (groups_go_on groups are.1) [
-    | inl none ↦ let end = group_ends _ are.0 in (end.0, rw (none, append-nil (group_bytes group)) end.1)
-    | inr p ↦ (group_bytes group ++ p.1.0, rw p.1.1 (sym (append_assoc (group_bytes group) p.1.0 (10 ∷ 10 ∷ []))))
+groups_go_on (group ∷ groups) (((head, begins), inner), are) = inr (
+  rw (begins_with group.head begins) refl,
+  elim (groups_go_on groups are) [
+    | inl none ↦ let (front, ends) = group_ends _ ((head, begins), inner) in (front, rw (none, append-nil (group_bytes group)) ends)
+    | inr (_, (front, ends)) ↦ (group_bytes group ++ front, rw ends (sym (append_assoc (group_bytes group) front (10 ∷ 10 ∷ []))))
   ],
 )
 
@@ -430,17 +423,17 @@ pub record Agrees (group after : List ℕ) : Type 0 where
 pub agrees : (rest group after : List ℕ) (groups : List Group) → CutsGroup rest group after → 0 < length rest
     → AllByRecursion IsMboxGroup groups → rest ≡ flat_map group_bytes groups → Agrees group after
 agrees rest group after [] cut some are whole = absurd (omega (arith, ap length whole))
-agrees _ group after (first ∷ groups) cut _ are whole =
-    let lines : cut.0.head ∷ (cut.0.inner ++ lines_of after)
+agrees _ group after (first ∷ groups) (cut, opens) _ (is, are) whole =
+    let lines : cut.head ∷ (cut.inner ++ lines_of after)
     ≡ first.head ∷ ((first.lines ++ (10 ∷ []) ∷ []) ++ flat_map group_lines groups) =
-    cc (whole, groups_lines (first ∷ groups) are) in
-    let span = same_span _ _ _ _ cut.0.apart (inner_apart _ are.0.1) cut.1 (opens_groups _ are.1) (cc) in
+    cc (whole, groups_lines (first ∷ groups) (is, are)) in
+    let (_, rest) = same_span _ _ _ _ cut.apart (inner_apart _ is.1) opens (opens_groups _ are) (cc) in
     let rest-is : after ≡ flat_map group_bytes groups =
-    cc (lines_joined after, groups_lines groups are.1, lines_joined (flat_map group_bytes groups)) in
+    cc (lines_joined after, groups_lines groups are, lines_joined (flat_map group_bytes groups)) in
     record {
       first = first;
       groups = groups;
-      are = are;
+      are = (is, are);
       bytes = append_cancel_right group (group_bytes first) after (cc whole);
       whole = rest-is;
     }

@@ -18,29 +18,29 @@ delivered old new title name bytes r fault s = absurd (cc fault)
 
 pub returns-then-is_empty-clause-delivers : goal.returns-then-is_empty-clause-delivers
 returns-then-is_empty-clause-delivers g c = λ k.
-    let settled = c.settle.ensures.settles k in
-    let begun = c.in_ok-begin.ensures.begins settled.0 in
+    let (between, settles) = c.settle.ensures.settles k in
+    let (first, (_, begun)) = c.in_ok-begin.ensures.begins between in
     let named : c.as_str.result.now ≡ sized c.args.stem.now (length c.args.text.now) = search rules in
     let empty = nil_from_length c.args.text.now (eqb-true (length c.args.text.now) 0 (sym c.is_empty.ensures ∙ c.if-is_empty.true)) in (
-      begun.0,
+      first,
       rw (← named, empty) (delivered _ _ c.args.stem.now c.as_str.result.now [] c.settle.result
-          c.settle.ensures.fault (rw begun.1.1 at settled.1)),
+          c.settle.ensures.fault (rw begun at settles)),
     )
 
 pub settle-requires-2-clause-not_there : goal.settle-requires-2-clause-not_there
 settle-requires-2-clause-not_there g c = λ k.
-    let added = c.in_default.ensures.adds k in
-    let begun = c.in_ok-begin.ensures.begins added.0 in
+    let (between, added) = c.in_default.ensures.adds k in
+    let (first, (_, begun)) = c.in_ok-begin.ensures.begins between in
     let named : c.as_str-2.result.now ≡ sized c.args.stem.now (length c.args.text.now) = search rules in
-    rw ((rw begun.1.1 at added.1) (draft c.args.stem.now []) refl, named) (c.requires.not_there begun.0)
+    rw ((rw begun at added) (draft c.args.stem.now []) refl, named) (c.requires.not_there first)
 
 pub returns-clause-delivers : goal.returns-clause-delivers
 returns-clause-delivers g c = λ k.
-    let settled = c.settle-2.ensures.settles k in
-    let added = c.in_default.ensures.adds settled.0 in
-    let begun = c.in_ok-begin.ensures.begins added.0 in
+    let (later, settles) = c.settle-2.ensures.settles k in
+    let (between, added) = c.in_default.ensures.adds later in
+    let (first, (_, begun)) = c.in_ok-begin.ensures.begins between in
     let named : c.as_str-2.result.now ≡ sized c.args.stem.now (length c.args.text.now) = search rules in
-    let written = rw ((rw begun.1.1 at added.1) (draft c.args.stem.now []) refl) at settled.1 in (
-      begun.0,
+    let written = rw ((rw begun at added) (draft c.args.stem.now []) refl) at settles in (
+      first,
       rw (← named) (delivered _ _ c.args.stem.now c.as_str-2.result.now c.args.text.now c.settle-2.result c.settle-2.ensures.fault written),
     )

@@ -23,8 +23,8 @@ ends_decide was test some head e =
       λ yes. inr (heads_tell was head, tails_tell was (sym (tail_is was) ∙ same.0 (sym e ∙ yes))),
       λ goes. elim goes [
         | inl none ↦ absurd (some (ap length none))
-        | inr p ↦ e ∙ same.1 (tail_is was
-            ∙ rw p.1.1 (drop_at (0 ∷ 0 ∷ p.1.0) (10 ∷ 10 ∷ []) _ (omega (arith, length-append p.1.0 (10 ∷ 10 ∷ [])))))
+        | inr (_, (front, ends)) ↦ e ∙ same.1 (tail_is was
+            ∙ rw ends (drop_at (0 ∷ 0 ∷ front) (10 ∷ 10 ∷ []) _ (omega (arith, length-append front (10 ∷ 10 ∷ [])))))
       ],
     )
 

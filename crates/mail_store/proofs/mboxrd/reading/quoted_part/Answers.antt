@@ -29,8 +29,8 @@ returns-in_err-quoted-clause-none c = rw c.from_residual.ensures (λ text held.
 
 pub returns-then-not-begins_entry-clause-none : goal.returns-then-not-begins_entry-clause-none
 returns-then-not-begins_entry-clause-none c = λ text held.
-    let parts = parts_of (goal.at.returns-then-not-begins_entry-clause-none c).After-cut_line text held in
-    true≢false (sym parts.0.1 ∙ sym c.begins_entry.ensures ∙ c.if-not-begins_entry.true)
+    let ((_, begins), _) = parts_of (goal.at.returns-then-not-begins_entry-clause-none c).After-cut_line text held in
+    true≢false (sym begins ∙ sym c.begins_entry.ensures ∙ c.if-not-begins_entry.true)
 
 pub returns-then-not-is_whole-clause-none : goal.returns-then-not-is_whole-clause-none
 returns-then-not-is_whole-clause-none c = λ text held.

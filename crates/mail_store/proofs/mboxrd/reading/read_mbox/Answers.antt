@@ -10,10 +10,11 @@ returns-in_default c = λ others file.
     let more = (c.loop-rest.invariant.later others file).1 in
     let same = agrees c.loop-rest.rest.now c.cut_group.result.0.now c.cut_group.result.1.now more.groups
     c.cut_group.ensures.cuts (omega arith) more.are more.whole in
+    let ((begins, inner), _) = same.are in
     c.in_default.ensures.none (joined same.first.lines) (record {
       head = same.first.head;
-      begins = same.are.0.0;
-      whole = joined_whole same.first.lines (inner_lines same.first.lines same.are.0.1);
+      begins = begins;
+      whole = joined_whole same.first.lines (inner_lines same.first.lines inner);
       split = same.bytes;
     })
 
