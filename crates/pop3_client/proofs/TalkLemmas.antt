@@ -48,8 +48,8 @@ lines_within (line ∷ lines) short = omega (arith, length-append {A = ℕ}, sho
 -- the same for the body of a turn's reply, if it has one, and its first line
 body_within : (turn : Turn) (body : Option (List (List ℕ))) → IsBody turn body → line_limit + length (body_bytes body) ≤ most turn
 body_within turn None is = omega (arith, most_least turn)
-body_within (Some UidlAll) (Some lines) is = omega (arith, length-append {A = ℕ}, is.1.0, lines_within lines is.1.1)
-body_within (Some ListAll) (Some lines) is = omega (arith, length-append {A = ℕ}, is.1.0, lines_within lines is.1.1)
+body_within (Some UidlAll) (Some lines) (_, (few, short, _)) = omega (arith, length-append {A = ℕ}, few, lines_within lines short)
+body_within (Some ListAll) (Some lines) (_, (few, short, _)) = omega (arith, length-append {A = ℕ}, few, lines_within lines short)
 body_within (Some (Retr number)) (Some lines) is = omega (arith, is.1)
 body_within other (Some lines) is = absurd is.1
 
@@ -201,21 +201,18 @@ nothing_said link = rw append-nil
 -- a turn wasn't sent whole
 pub broke_saying : (turn : Turn) (old new : Place) (fault : ClientFault)
     → Sent (turn_bytes turn) old.link (Err fault) new.link → new.waiting ≡ old.waiting → Broke turn old new fault
-broke_saying turn old new fault said waits =
-    let is = said.1.3 in
-    inl (
-      said.0,
-      record {
-        front = said.1.0;
-        rest = said.1.1;
-        split = said.1.2;
-        sent = rw is;
-        got = rw is;
-        waiting =
-            waits;
-        risen = rw is (omega arith);
-      },
-    )
+broke_saying turn old new fault (failed, (front, rest, split, is)) waits = inl (
+  failed,
+  record {
+    front = front;
+    rest = rest;
+    split = split;
+    sent = rw is;
+    got = rw is;
+    waiting = waits;
+    risen = rw is (omega arith);
+  },
+)
 
 -- ---- turns in a row
 

@@ -27,14 +27,14 @@ returns-clause-talks g c = λ s.
     ∙ ap (λ (n : List ℕ). turn_bytes (user n)) (c.from_vec-name.ensures ∙ c.in_ok-from_slice.ensures.items) in
     let also = c.deref-2.ensures.value ∙ c.in_ok-password_line.ensures.ok
     ∙ ap (λ (p : List ℕ). turn_bytes (pass p)) (c.from_vec-password.ensures ∙ c.in_ok-from_slice-2.ensures.items) in
-    let third = c.ask-2.ensures.asks s in
-    let second = c.in_ok-ask.ensures.asks third.0 in
-    let first = c.in_ok-greet.ensures.asks second.0 in
-    let named = second.2 (user name) (name, refl) refl is in
+    let (between, behind, third) = c.ask-2.ensures.asks s in
+    let (later, then, second) = c.in_ok-ask.ensures.asks between in
+    let (before, on, (greets, greeted)) = c.in_ok-greet.ensures.asks later in
+    let named = second (user name) (name, refl) refl is in
     let last = completes_talks (pass password) _ _ c.ask-2.result
-    (asks_completes (pass password) _ _ c.ask-2.result refl (third.2 (pass password) (password, refl) refl also)) in (
-      first.0,
-      g.met.W.Wire.leads_on _ _ _ first.1 (g.met.W.Wire.leads_on _ _ _ second.1 third.1),
-      completes_then greeting (user name ∷ pass password ∷ []) _ _ _ _ c.ask-2.result (talked_line greeting first.2.0 _ _ first.2.1 refl)
+    (asks_completes (pass password) _ _ c.ask-2.result refl (third (pass password) (password, refl) refl also)) in (
+      before,
+      g.met.W.Wire.leads_on _ _ _ on (g.met.W.Wire.leads_on _ _ _ then behind),
+      completes_then greeting (user name ∷ pass password ∷ []) _ _ _ _ c.ask-2.result (talked_line greeting greets _ _ greeted refl)
           (completes_then (user name) (pass password ∷ []) _ _ _ _ c.ask-2.result (talked_line (user name) named.0 _ _ named.1 refl) last),
     )
