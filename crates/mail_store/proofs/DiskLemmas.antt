@@ -432,8 +432,8 @@ durable_append old new bytes r t =
     record {
       longer = leaves_become _ _ _ (λ _. inl refl) (λ b c is. part_longer b c _ _ is.4) part;
       leaves = λ on was has left may. ⊎_elim (λ e. ([], cc (left_kept old new left on e may, append-nil was), tt))
-          (λ t. let k = left_become _ _ _ _ t on has may in
-          pieces_behind _ _ _ _ _ _ _ k.1.3 k.1.4 k.2) part;
+          (λ t. let (_, (_, _, _, parts, is), leaves) = left_become {R = IsFrontAppended bytes} _ _ _ _ t on has may in
+          pieces_behind _ _ _ _ _ _ _ parts is leaves) part;
       durable = now_durable _ (λ _. refl) _ _ _ r t;
     }
 

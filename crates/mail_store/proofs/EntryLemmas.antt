@@ -128,7 +128,7 @@ nothing old new text fault t sees =
     record { sees = sees; keeps = l.0; durable = λ _. tt; leaves = l.1; still = l.2 }
 
 pub entries_are_durable : EntriesAreDurable
-entries_are_durable old new text (Ok _) t = stored old new text t.0.0 t.0.1 t.1
+entries_are_durable old new text (Ok _) ((was, is), t) = stored old new text was is t
 entries_are_durable old new text (Err (Nothing Missing)) t = nothing old new text Missing t.1
     (t.0, flush_seen {T = Unit {0}} old new (Err Missing) t.1)
 entries_are_durable old new text (Err (Nothing NotMbox)) t = nothing old new text NotMbox t.1

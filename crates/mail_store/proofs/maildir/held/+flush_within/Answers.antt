@@ -7,16 +7,15 @@ use Rattle.mail_store.proofs.maildir.held.+flush_within.Goals as goal
 
 pub returns-then-is_empty-clause-finds : goal.returns-then-is_empty-clause-finds
 returns-then-is_empty-clause-finds g t c = λ k.
-    let found = c.in_ok-found.ensures.finds k in
-    let finds = found.1.2 in
+    let (first, (left, taken, finds)) = c.in_ok-found.ensures.finds k in
     let held = c.deref.ensures.value ∙ finds.0 ∙ ap (λ (m : Maildir). flags_asked c.args.asked.all c.args.account.now m c.args.listing.now
     c.args.asked.flags.now) (sym finds.1) in
     let none = nil_from_length c.in_ok-stems.stems.items (sym c.in_ok-stems.stems.ok.0
     ∙ eqb-true c.in_ok-stems.stems.len 0 (sym c.is_empty.ensures ∙ c.if-is_empty.true)) in (
-      found.0,
+      first,
       (
-        found.1.0,
-        found.1.1,
+        left,
+        taken,
         (
           finds,
           found_durable {A = Global} c.args.asked.all c.args.account.now
@@ -28,20 +27,18 @@ returns-then-is_empty-clause-finds g t c = λ k.
 
 pub returns-then-branch-clause-finds : goal.returns-then-branch-clause-finds
 returns-then-branch-clause-finds g t c = λ k.
-    let flushes = c.in_ok-flush.ensures.flushes k in
-    let found = c.in_ok-found.ensures.finds flushes.0 in
-    let finds = found.1.2 in
+    let (between, flushes) = c.in_ok-flush.ensures.flushes k in
+    let (first, (left, taken, finds)) = c.in_ok-found.ensures.finds between in
     let account = c.args.account.now in
     let items = c.args.listing.now in
     let stems = c.in_ok-stems.stems.items in
-    let left = found.1.0 in
-    let is = rw (c.if-branch.true, c.deref-2.ensures.value, finds.1) at flushes.1 in
+    let is = rw (c.if-branch.true, c.deref-2.ensures.value, finds.1) at flushes in
     let same = asked_flushed c.args.asked.all account left stems items c.args.asked.flags.now in
     let held = c.deref.ensures.value ∙ finds.0 ∙ sym same in (
-      found.0,
+      first,
       (
         with_flushed stems left,
-        taken_flushed stems (g.D.MaildirDisk.maildir c.args.disk.now) left found.1.1,
+        taken_flushed stems (g.D.MaildirDisk.maildir c.args.disk.now) left taken,
         (
           (finds.0 ∙ sym same, is, finds.2, finds.3, named_flushed stems left.files finds.4, finds.5),
           rw is (found_durable c.args.asked.all account (with_flushed stems left) stems
@@ -52,15 +49,9 @@ returns-then-branch-clause-finds g t c = λ k.
 
 pub returns-clause-finds : goal.returns-clause-finds
 returns-clause-finds g t c = λ k.
-    let next = c.flush_within.ensures.finds k in
-    let flushes = c.in_ok-flush.ensures.flushes next.0 in
-    let found = c.in_ok-found.ensures.finds flushes.0 in
-    let missed = rw (c.if-branch.false, found.1.2.1) at flushes.1 in
-    let first = subst (WereTaken (g.D.MaildirDisk.maildir c.args.disk.now)) (sym missed) found.1.1 in (
-      found.0,
-      (
-        next.1.0,
-        taken_on (g.D.MaildirDisk.maildir c.args.disk.now) (g.D.MaildirDisk.maildir c.flush.new.self) next.1.0 first next.1.1,
-        next.1.2,
-      ),
-    )
+    let (later, (left, then, rest)) = c.flush_within.ensures.finds k in
+    let (between, flushes) = c.in_ok-flush.ensures.flushes later in
+    let (first, (_, taken, finds)) = c.in_ok-found.ensures.finds between in
+    let missed = rw (c.if-branch.false, finds.1) at flushes in
+    let before = subst (WereTaken (g.D.MaildirDisk.maildir c.args.disk.now)) (sym missed) taken in
+    (first, (left, taken_on (g.D.MaildirDisk.maildir c.args.disk.now) (g.D.MaildirDisk.maildir c.flush.new.self) left before then, rest))

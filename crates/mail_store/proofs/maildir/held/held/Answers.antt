@@ -5,16 +5,15 @@ use Rattle.mail_store.proofs.maildir.held.held.Goals as goal
 
 pub returns-clause-finds : goal.returns-clause-finds
 returns-clause-finds g c = λ k.
-    let finds = c.held_of.ensures.finds k in
+    let (first, (left, taken, finds)) = c.held_of.ensures.finds k in
     let all = c.deref.ensures.value ∙ c.in_ok-all.ensures.items_if_clones_equal (λ y same. same)
     ∙ splat_is_map c.args.listing.now c.len.result true (sym c.len.ensures.count) in (
-      finds.0,
+      first,
       (
-        finds.1.0,
-        finds.1.1,
-        subst (λ (flags : List Bool). FindsFlags flags finds.1.0 c.held_of.result
-            (g.D.MaildirDisk.maildir c.held_of.new.disk))
-            (sought_all c.args.account.now finds.1.0 c.args.listing.now _ all) finds.1.2,
+        left,
+        taken,
+        subst (λ (flags : List Bool). FindsFlags flags left c.held_of.result (g.D.MaildirDisk.maildir c.held_of.new.disk))
+            (sought_all c.args.account.now left c.args.listing.now _ all) finds,
       ),
     )
 
