@@ -1,6 +1,6 @@
 -- What appending an entry does to a file.
 use Rattle.std.{
-  proofs.Common.{◌≡◌, ◌++◌, ◌≤◌, ℕ, List, [], Option, Some, inl, inr, ⊎_elim, length, sym, refl, ap, subst, ◌∙◌, arith, length-append},
+  proofs.Common.{◌≡◌, ◌++◌, ℕ, List, [], Option, Some, inl, inr, ⊎_elim, length, sym, refl, ap, subst, ◌∙◌, arith, length-append},
   proofs.Common.{Ok, Err, Result, OnOk, append-nil, take_at},
   proofs.lemmas.Option.same_Some,
 }
