@@ -112,7 +112,7 @@ module _ {D : Type 0} (sound : D → Type 0) (mail : D → DropMail) where
 
   went_out : (old new : Machine D) (lines : List (List ℕ)) (rest sent : List ℕ) (result : Result (Unit {0}) ServerFault)
       → WentOut sound mail old lines rest sent result new → is_open old.state ≡ true → is_open new.state ≡ false → HasQuit lines
-  went_out old new lines rest sent (Ok done) went opened closed = lines_have_quit old new lines went.0.0 went.0.1 opened closed
+  went_out old new lines rest sent (Ok done) ((answers, run, _), _) opened closed = lines_have_quit old new lines answers run opened closed
   went_out old new lines rest sent (Err ReadFailed) went opened closed = lines_have_quit old new lines went.0 went.1 opened closed
   went_out old new lines rest sent (Err WriteFailed) (inl part) opened closed = absurd (false≢true (sym closed ∙ rw part.3 opened))
   went_out old new lines rest sent (Err WriteFailed) (inr (unsent, text, last)) opened closed =

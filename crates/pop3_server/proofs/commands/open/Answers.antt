@@ -23,16 +23,21 @@ module _ {D Z : Type 0} (sound : D → Type 0) (mail : D
   unanswered_listing failures removals = record {
     failures = failures;
     removals = removals;
-    messages = λ s. let l = lists s in (l.0, ap (λ (m : DropMail). there m.slots) l.1.0 ∙ there_map (there (mail old).slots));
+    messages = λ s.
+        let (before, (slots, _)) = lists s in
+        (before, ap (λ (m : DropMail). there m.slots) slots ∙ there_map (there (mail old).slots));
   }
 
   rows_are : {rows : List MessageRow} → rows ≡ map row_of_entry entries.items → sound new → rows ≡ map message_row (there (mail old).slots)
-  rows_are are s = are ∙ ap (map row_of_entry) (lists s).1.1 ∙ map-map row_of_entry listed_message (there (mail old).slots)
+  rows_are are s =
+      let (_, (_, entries-are)) = lists s in
+      are ∙ ap (map row_of_entry) entries-are ∙ map-map row_of_entry listed_message (there (mail old).slots)
 
   tied_open : (rows : List MessageRow) → rows ≡ map row_of_entry entries.items → Tied (sound new) (mail new) (Transaction rows)
   tied_open rows are = λ s i row h.
+      let (_, (slots, _)) = lists s in
       let p = placed (there (mail old).slots) i row (rw (rows_are are s) at h) in
-      (p.0, ap (λ (m : DropMail). slice_get m.slots i) (lists s).1.0 ∙ p.1)
+      (p.0, ap (λ (m : DropMail). slice_get m.slots i) slots ∙ p.1)
 
 pub returns-in_err-rows-clause-err : goal.returns-in_err-rows-clause-err
 returns-in_err-rows-clause-err g c =
@@ -57,10 +62,10 @@ returns-clause-ok g c = λ state. rw c.go-2.ensures (record {
     rw c.as_slice.ensures.value at c.in_ok-reply.ensures.ok,
     refl,
     λ s.
-        let l = c.in-Ok.ensures.lists s in (
-          l.0,
+        let (before, (slots, _)) = c.in-Ok.ensures.lists s in (
+          before,
           (
-            l.1.0,
+            slots,
             rows_are g.D.Maildrop.sound g.D.Maildrop.mail c.args.drop.now c.entries.new.self
                 c.in-Ok.entries c.in-Ok.ensures.lists c.in_ok-rows.ensures.rows s,
           ),
