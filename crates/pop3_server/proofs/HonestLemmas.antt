@@ -160,13 +160,13 @@ rows_content line IsRow good k (m ∷ ms) (false ∷ bs) few all =
 
 pub scan_rows : GoodRows scan_line IsScanRow
 scan_rows k m few served =
-    let row = scan_rows_are_read k m.size few (omega (arith, served.within)) in
-    (row.0.0, scan_fields _ k m (ap number_and_size row.0.1 ∙ row.1))
+    let ((content, read), fields) = scan_rows_are_read k m.size few (omega (arith, served.within)) in
+    (content, scan_fields _ k m (ap number_and_size read ∙ fields))
 
 pub uid_rows : GoodRows uid_line IsUidRow
 uid_rows k m few served =
-    let row = uid_rows_are_read k m.uid few served.is_message.legal in
-    (row.0.0, uid_fields _ k m (ap number_and_id row.0.1 ∙ row.1))
+    let ((content, read), fields) = uid_rows_are_read k m.uid few served.is_message.legal in
+    (content, uid_fields _ k m (ap number_and_id read ∙ fields))
 
 pub lists_all : (line : ℕ → MessageRow → List ℕ) (IsRow : ℕ × Message → List ℕ → Type 0) → GoodRows line IsRow
     → (ms : List Message) (bs : List Bool) (answer : List ℕ) → AreServed ms → answer ≡ listed line (rows_with ms bs)
@@ -287,14 +287,14 @@ module _ {D : Type 0} (sound : D → Type 0) (mail : D
     gave k m at slot served (state, inl (is, known)) =
         replies marks state (known s).1 (reply_refuses ms marks (Retr k) answer (codes " message unavailable") is refl) stands (inl refl)
     gave k m at slot served (state, inr (text, is, known)) =
-        let drop = (known s).1 in
-        let found = rw stands.0 at drop.1.1 in
-        let same : drop.1.0 ≡ m = cc in
-        let words : stuffed_lines (lines_of_text text) ≡ stuffed_lines (lines_of_text m.text) = drop.1.2
+        let (_, (stays, (given, slot-is, texts))) = known s in
+        let found = rw stands.0 at slot-is in
+        let same : given ≡ m = cc in
+        let words : stuffed_lines (lines_of_text text) ≡ stuffed_lines (lines_of_text m.text) = texts
         ∙ ap (λ (x : Message). stuffed_lines (lines_of_text x.text)) same in
         let none : HoldsNoLf (32 ∷ (decimal m.size ++ codes " octets")) =
         simp (list_all-append, no_lf_decimal m.size (omega (arith, served.within))) in
-        replies marks state drop.0 (inr (
+        replies marks state stays (inr (
           said (octets_line (row_with m false)),
           stuffed_lines (lines_of_text text),
           m,
@@ -381,11 +381,11 @@ module _ {D : Type 0} (sound : D → Type 0) (mail : D → DropMail) where
   did_sound Open old answer next new (inl (is, state, known)) s =
       ((known s).0, omega (arith, ap (λ (m : DropMail). m.failures) (known s).1))
   did_sound Open old answer next new (inr (rows, limits, is, state, known)) s =
-      ((known s).0, omega (arith, ap (λ (m : DropMail). m.failures) (known s).1.0))
+      let (before, (stays, _)) = known s in (before, omega (arith, ap (λ (m : DropMail). m.failures) stays))
   did_sound (Give rows i line top) old answer next new (state, inl (is, known)) s =
       ((known s).0, omega (arith, ap (λ (m : DropMail). m.failures) (known s).1))
   did_sound (Give rows i line top) old answer next new (state, inr (text, is, known)) s =
-      ((known s).0, omega (arith, ap (λ (m : DropMail). m.failures) (known s).1.0))
+      let (before, (stays, _)) = known s in (before, omega (arith, ap (λ (m : DropMail). m.failures) stays))
   did_sound (Leave rows) old answer next new (state, (all, is, known)) s = ((known s).0, omega (arith, few_left (known s).1))
 
   pub run_sound : (old new : Machine D) (lines : List (List ℕ)) (answers : List ℕ)

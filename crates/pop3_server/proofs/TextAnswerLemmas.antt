@@ -49,8 +49,7 @@ module _ {D : Type 0} (sound : D → Type 0) (mail : D → DropMail) where
   reads_part a b i start n piece failures removals gives = record {
     failures = failures;
     removals = removals;
-    known =
-        λ s. let now = gives s in (now.0, now.1.0);
+    known = λ s. let (before, (stays, _)) = gives s in (before, stays);
   }
 
   pub reads_tied : (refused : Bool) (a b : D) (state : State) → OnlyReads sound mail refused a b
