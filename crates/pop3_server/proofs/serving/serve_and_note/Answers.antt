@@ -18,11 +18,11 @@ returns-in_err-hello-clause-served g c =
 pub returns-in_err-send-clause-served : goal.returns-in_err-send-clause-served
 returns-in_err-send-clause-served g c =
     rw (err_is c.from_residual-in_err-send.ensures.1) (λ s.
-    let sent = c.in_err-send.ensures.sends s in (
-      sent.0,
-      sent.1,
-      rw c.in_err-send.ensures.err (served_ungreeted _ _ _ _ c.greeting.new.self _ c.as_slice.result.now sent.2.0
-          sent.2.1 c.greeting.ensures.same (c.as_slice.ensures.value ∙ c.in_ok-hello.ensures.ok.0) sent.2.2 sent.2.3),
+    let (before, on, (front, rest, split, sent)) = c.in_err-send.ensures.sends s in (
+      before,
+      on,
+      rw c.in_err-send.ensures.err (served_ungreeted _ _ _ _ c.greeting.new.self _ c.as_slice.result.now front
+          rest c.greeting.ensures.same (c.as_slice.ensures.value ∙ c.in_ok-hello.ensures.ok.0) split sent),
     ))
 
 pub loop-hello-init : goal.loop-hello-init
