@@ -71,12 +71,12 @@ module _ (uid text : List ℕ) (mbox file : KnownFile) (seen seen' : Loaded) whe
         → EntryFails text look mid size fault mbox' file'
         → RefusesEntry (stored_of mbox) (stored_of file) seen.rows uid text fault (stored_of mbox') (stored_of file')
     unentered stood fault mbox' file' (inl ((t, count), same, is)) =
-        let sees = (entries_are_durable look.disk mbox'.disk text (Err Front) t).sees in
-        let mine = was_is sees.0 sees.3 in
+        let (was, front, rest, follows, split, left) = (entries_are_durable look.disk mbox'.disk text (Err Front) t).sees in
+        let mine = was_is was follows in
         let up : mbox'.refusals ≡ mbox.refusals + 1 + 1 = omega (arith, count, i.sizes.2) in
         rw (is, same) (inr (
           (i.was, i.sizes.0, saved),
-          (i.was, sees.1, sees.2, (i.sizes.0, rw mine at sees.3.1), sees.4, rw (sees.5, up, mine) refl),
+          (i.was, front, rest, (i.sizes.0, rw mine at follows.1), split, rw (left, up, mine) refl),
         ))
     unentered stood fault mbox' file' (inr (why, enters, cuts, is)) =
         entry_refused (stored_of mbox) (stored_of look) (stored_of mbox') (stored_of file) (stored_of file') seen.rows uid text
@@ -93,12 +93,12 @@ pub enters_sees : (uid text : List ℕ) (mbox file : KnownFile) (seen seen' : Lo
     → Steady (seen_on file.disk) (none_open seen.rows) → WritesEntry seen.rows uid text mbox file r mbox' file' seen'.intent
     → AppendsText (stored_of mbox) (stored_of file) seen uid text r (stored_of mbox') (stored_of file') seen'
 enters_sees uid text mbox file seen seen' (Ok _) mbox' file' stood (look, size, i, (t, count), opened) =
-    let sees = (entries_are_durable look.disk mbox'.disk text (Ok tt) t).sees in
-    let mine = was_is uid text mbox file seen seen' look size file' i sees.0 sees.1 in
+    let (was, follows, grown) = (entries_are_durable look.disk mbox'.disk text (Ok tt) t).sees in
+    let mine = was_is uid text mbox file seen seen' look size file' i was follows in
     let up : mbox'.refusals ≡ mbox.refusals = omega (arith, count, i.sizes.2) in (
       i.was,
-      (i.sizes.0, rw mine at sees.1.1),
-      rw (sees.2, up, mine) refl,
+      (i.sizes.0, rw mine at follows.1),
+      rw (grown, up, mine) refl,
       opened,
       saved uid text mbox file seen seen' look size file' i,
     )

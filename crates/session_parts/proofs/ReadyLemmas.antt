@@ -243,12 +243,12 @@ module _ {D F : Type 0} (disk : DiskGhosts D) (files : FileGhosts F) where
 -- what follows from what the store told, of what readers have left of it
 pub told_of : {A B : Type 0} {Part P Q : Maildir → Type 0} → A × ((left : Maildir) × Part left × P left) → B
     → ((left : Maildir) → P left → Q left) → A × B × ((left : Maildir) × Part left × Q left)
-told_of told sound both = (told.0, sound, (told.1.0, told.1.1, both told.1.0 told.1.2))
+told_of (safe, (left, part, is)) sound both = (safe, sound, (left, part, both left is))
 
 -- the same of a part of a session, which leads its link from another place
 pub followed : {A A' B C L L' : Type 0} {Part P Q : Maildir → Type 0} → A × B × C × L × ((left : Maildir) × Part left × P left)
     → A' → L' → ((left : Maildir) → P left → Q left) → A' × B × C × L' × ((left : Maildir) × Part left × Q left)
-followed went sound leads both = (sound, went.1, went.2, leads, (went.4.0, went.4.1, both went.4.0 went.4.2))
+followed (_, disk, file, _, (left, part, is)) sound leads both = (sound, disk, file, leads, (left, part, both left is))
 
 -- ---- only what isn't known was asked for
 

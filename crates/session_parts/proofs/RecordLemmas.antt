@@ -292,18 +292,19 @@ taken : (rows : List Row) (intent : Intent) (old : KnownFile) (size : ℕ) (new 
 taken rows intent old size new till r t count =
     let law = durable_cut old.disk new.disk size r t in
     let opened = with_open rows intent in
+    let (whole, there, _) = till.0 in
     record {
       sees = taken_back (stored_of old) (stored_of new) size opened r till (cuts old.disk new.disk size old.refusals new.refusals r t
           count);
       keeps = λ last left may. ⊎_elim (last left) (λ (behind, is). (
-        take size till.0.0,
+        take size whole,
         behind,
         inr is,
-        till_front (stored_of old) size rows till.0.0 till till.0.1,
-      )) (law.front till.0.0 till.0.1 left may);
-      leaves = λ safe leaves bytes is left may. ⊎_elim (leaves till.0.0 till.0.1 left) (λ (was, has, all).
+        till_front (stored_of old) size rows whole till there,
+      )) (law.front whole there left may);
+      leaves = λ safe leaves bytes is left may. ⊎_elim (leaves whole there left) (λ (was, has, all).
           still_grown (none_open rows) opened (take size was) left (till_front (stored_of old) size rows was till has) all)
-          (law.leaves (safe.1 till.0.0 till.0.1).0 left may);
+          (law.leaves (safe.1 whole there).0 left may);
     }
 
 pub durably_takes_back : (rows : List Row) (intent : Intent) (old : KnownFile) (size : ℕ) (new : KnownFile)

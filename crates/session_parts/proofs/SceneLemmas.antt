@@ -102,11 +102,13 @@ till_front _ size rows _ till is = rw is at till.1
 pub taken_back : (old new : Stored) (size : ℕ) (was : RecordState) (r : Result (Unit {0}) StoreFault) → StandsTill old size was.rows
     → Cuts old size r new → TakesBack old was new
 taken_back old new size was (Ok done) till cuts =
-    let stands = till_front old size was.rows till.0.0 till till.0.1 in
-    inl (rw (cuts till.0.0 till.0.1) (refl, λ stood. stands))
+    let (whole, there, _) = till.0 in
+    let stands = till_front old size was.rows whole till there in
+    inl (rw (cuts whole there) (refl, λ stood. stands))
 taken_back old new size was (Err fault) till cuts =
-    let stands = till_front old size was.rows till.0.0 till till.0.1 in
-    elim (cuts till.0.0 till.0.1) [
+    let (whole, there, _) = till.0 in
+    let stands = till_front old size was.rows whole till there in
+    elim (cuts whole there) [
       | inl is ↦ inr (rw is (refl, λ stood. inl (steady_keeps old.content was stood)))
       | inr is ↦ inr (rw is (refl, λ stood. inr (Two, false, stands)))
     ]

@@ -289,10 +289,10 @@ pub entries_session : {D F : Type 0} (disk : DiskGhosts D) (file : FileGhosts F)
     → IsSoundMbox file store' → A × IsSoundMbox file store × B × C
     × Did AsEntries (in_mbox (mbox_of file store)) (in_mbox (mbox_of file store'))
 entries_session disk file (InMbox device) (InMbox device') digits Did A B C kind met sound =
-    let m = met sound in
+    let (first, safe, second, third, (left, taken, did)) = met sound in
     let none = subst (λ (maildir : Maildir). Did AsEntries (with_maildir (in_mbox (stored_in file device)) maildir)
-    (in_mbox (stored_in file device'))) (nothing_left m.4.0 m.4.1) m.4.2 in
-    (m.0, m.1, m.2, m.3, none)
+    (in_mbox (stored_in file device'))) (nothing_left left taken) did in
+    (first, safe, second, third, none)
 entries_session disk file (InMaildir device) (InMbox device') digits Did A B C kind met sound = absurd cc
 entries_session disk file store (InMaildir device') digits Did A B C kind met never = absurd never
 
@@ -305,7 +305,9 @@ all_alike p (x ∷ xs) = (p, all_alike p xs)
 -- steps that fetch nothing mark nothing
 pub quiet_ids : (steps : List Step) (items : List Item) (held : List Bool) → AllByRecursion IsQuiet steps
     → ids_ahead (tasks_planned steps items held) ≡ []
-quiet_ids (s ∷ ss) (i ∷ is) (h ∷ hs) quiet = rw (ahead s i h (tasks_planned ss is hs), quiet.0.0) (quiet_ids ss is hs quiet.1)
+quiet_ids (s ∷ ss) (i ∷ is) (h ∷ hs) quiet =
+    let (first, later) = quiet in
+    rw (ahead s i h (tasks_planned ss is hs), first.0) (quiet_ids ss is hs later)
 quiet_ids _ _ _ _ = refl
 
 -- if they mark something, each name is durable
@@ -472,15 +474,15 @@ pub work_preview : (settings : Settings) (target : Target) (items : List Item) (
     now) items found.held.items now)
     → PreviewsMerged settings target items now (keeping store file) told × ChangesNothing target (keeping store file) (keeping store' read)
 work_preview settings target items now store file _ loaded store' found _ stood same looks is =
-    let there = looked_found target store store' items (record_state_in loaded) found looks in (
+    let (rows, held, (left, settles), holds, odd) = looked_found target store store' items (record_state_in loaded) found looks in (
       record {
         was = record_state_in loaded;
         stood = read_keeps _ _ stood;
-        left = there.2.0;
-        settles = there.2.1;
-        told_is = let by = is (odd_in target store) there.4 in cc;
+        left = left;
+        settles = settles;
+        told_is = let by = is (odd_in target store) odd in cc;
       },
-      (there.3, cc),
+      (holds, cc),
     )
 
 -- the record couldn't be read

@@ -24,11 +24,11 @@ announced : (g : _) (c : In_ok-size g) → c.entry_len-len.result ≡ length (en
     (known_file g.F.FlatFile c.args.mbox.now) (known_file g.F.FlatFile c.args.ledger.now.file)
     (known_file g.F.FlatFile c.edges.new.self) c.in_ok-size.size (known_file g.F.FlatFile c.intend.new.file)
 announced g c size m f =
-    let sizes = (c.in_ok-edges.ensures.measures m).1 in
+    let (_, ((was, has, edges), same)) = c.in_ok-edges.ensures.measures m in
     record {
-      was = sizes.0.0;
-      sizes = (sizes.0.1, sizes.1, c.in_ok-edges.ensures.count);
-      intends = rw (sizes.0.2, size) at (c.in_ok-size.ensures.intends f).1;
+      was = was;
+      sizes = (has, same, c.in_ok-edges.ensures.count);
+      intends = rw (edges, size) at (c.in_ok-size.ensures.intends f).1;
     }
 
 pub take_back-requires : goal.take_back-requires
@@ -61,18 +61,18 @@ returns-in_err-edges-clause-writes g c = λ m f.
 
 pub returns-in_err-size-clause-writes : goal.returns-in_err-size-clause-writes
 returns-in_err-size-clause-writes g c = λ m f.
-    let sizes = (c.in_ok-edges.ensures.measures m).1 in
+    let (sound, ((was, has, edges), same)) = c.in_ok-edges.ensures.measures m in
     let did = c.in_err-size.ensures.intends f in
     let size = long g (goal.at.returns-in_err-size-clause-writes g c).After-entry_len-len in (
-      (c.in_ok-edges.ensures.measures m).0,
+      sound,
       did.0,
       rw (err_is c.from_residual-in_err-size.ensures.1) (inr (inl (
-        sizes.0.0,
-        (sizes.0.1, sizes.1, c.in_ok-edges.ensures.count),
+        was,
+        (has, same, c.in_ok-edges.ensures.count),
         subst (λ (i : Intent). Intends c.args.ledger.now.seen.rows i (known_file g.F.FlatFile c.args.ledger.now.file)
             (Err c.in_err-size.field-0.0) (known_file g.F.FlatFile c.intend.new.file))
-            (ap (λ (n : ℕ). intent_at c.args.uid.now n c.entry_len-len.result) (ap (λ (e : Edges). e.size) sizes.0.2)
-            ∙ ap (intent_at c.args.uid.now (length sizes.0.0)) size) did.1,
+            (ap (λ (n : ℕ). intent_at c.args.uid.now n c.entry_len-len.result) (ap (λ (e : Edges). e.size) edges)
+            ∙ ap (intent_at c.args.uid.now (length was)) size) did.1,
       ))),
     )
 
@@ -131,8 +131,9 @@ returns-in-Ok-clause-writes g c = λ m f.
     let here = goal.at.returns-in-Ok-clause-writes g c in
     let appends = c.in-Ok.ensures.appends m in
     let size = long g here.After-entry_len-len in
-    let i = announced g here.In_ok-size size appends.0 f in (
-      (c.in_ok-edges.ensures.measures appends.0).0,
+    let i = announced g here.In_ok-size size appends.0 f in
+    let (sound, ((_, _, edges), _)) = c.in_ok-edges.ensures.measures appends.0 in (
+      sound,
       (c.in_ok-size.ensures.intends f).0,
       (
         known_file g.F.FlatFile c.edges.new.self,
@@ -143,7 +144,7 @@ returns-in-Ok-clause-writes g c = λ m f.
           entry_counted (Ok tt) (g.F.FlatFile.refusals c.edges.new.self) (g.F.FlatFile.refusals c.append_entry.new.file)
               (g.met.F.FlatFile.below c.append_entry.new.file m) c.in-Ok.ensures.count,
         ),
-        rw ((c.in_ok-edges.ensures.measures appends.0).1.0.2, size) at c.in_ok-size.ensures.opened,
+        rw (edges, size) at c.in_ok-size.ensures.opened,
       ),
     )
 

@@ -10,7 +10,8 @@ returns-clause-maildir g c = λ now old new wire wire' report same runs w d f.
     files_session g.D.MaildirDisk g.F.FlatFile old.store new.store (digits_of old.settings) (λ t s s'. AfterTakingIn s
     (λ left. SessionIn old.settings t now (g.W.Wire.history wire) (keeping left (stored_in g.F.FlatFile old.file))
     report (g.W.Wire.history wire') (keeping s' (stored_in g.F.FlatFile new.file))))
-    _ _ _ same.kind (λ sound. let s = runs w sound f in (s.0, s.1, s.2, s.3, (s.4.0, s.4.1, s.4.2.0))) d
+    _ _ _ same.kind (λ sound.
+    let (wires, disks, files, leads, (left, part, is)) = runs w sound f in (wires, disks, files, leads, (left, part, is.0))) d
 
 pub returns-clause-mbox : goal.returns-clause-mbox
 returns-clause-mbox g c = λ now old new wire wire' report same runs w d f.

@@ -19,6 +19,7 @@ returns-in_err-messages-clause-enters g c = rw (err_is c.from_residual-in_err-me
 pub returns-clause-enters : goal.returns-clause-enters
 returns-clause-enters g c = and_then g.W.Wire g.met.W.Wire.leads_on c.in_ok-log_in.ensures.talks
     (and_then g.W.Wire {R = _ × _} g.met.W.Wire.leads_on c.in_ok-messages.ensures.counts c.list.ensures.lists
-    (λ q r. (q, r))) (λ logged both. rw (c.as_bytes-name.ensures.value, c.as_bytes-password.ensures.value) at
+    (λ q r. (q, r))) (λ logged ((counted, talked, gives), listed).
+    rw (c.as_bytes-name.ensures.value, c.as_bytes-password.ensures.value) at
     (listed_too c.turns_join.ensures c.as_bytes-name.result.now c.as_bytes-password.result.now _ _ _ _ logged.0
-    logged.1 both.0.0 c.in_ok-messages.messages c.list.result both.0.1 both.0.2 both.1))
+    logged.1 counted c.in_ok-messages.messages c.list.result talked gives listed))

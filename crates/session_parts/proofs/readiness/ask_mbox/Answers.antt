@@ -16,15 +16,15 @@ pub returns-in_err-check_mbox-clause-asks : goal.returns-in_err-check_mbox-claus
 returns-in_err-check_mbox-clause-asks g c =
     let p = err_from_is_err_and c.from_residual-in_err-check_mbox.result c.from_residual-in_err-check_mbox.ensures.1 in
     rw p.1 (λ kept.
-    let checks = c.in_err-check_mbox.ensures.checks kept in
-    let settles = c.in_ok-stored.ensures.settles checks.0 in (
+    let (before, (tells, flushed)) = c.in_err-check_mbox.ensures.checks kept in
+    let settles = c.in_ok-stored.ensures.settles before in (
       settles.0,
       asks_refused c.args.seen.now.intent (stored_in g.F.FlatFile c.args.mbox.now)
           (stored_in g.F.FlatFile c.settle.new.mbox) (stored_in g.F.FlatFile c.check_mbox.new.file) c.in_ok-stored.stored
           c.args.listing.now c.in_err-check_mbox.field-0.0 p.0 settles.1 (
-            checks.1.0,
+            tells,
             stays (known_file g.F.FlatFile c.settle.new.mbox) (known_file g.F.FlatFile c.check_mbox.new.file)
-                c.in_err-check_mbox.field-0.0 checks.1.1 (tallied (is_refusal c.in_err-check_mbox.field-0.0)
+                c.in_err-check_mbox.field-0.0 flushed (tallied (is_refusal c.in_err-check_mbox.field-0.0)
                 (g.F.FlatFile.refusals c.settle.new.mbox) (g.F.FlatFile.refusals c.check_mbox.new.file)
                 (g.met.F.FlatFile.below c.check_mbox.new.file kept) c.in_err-check_mbox.ensures.count),
           ) p.2,
@@ -32,13 +32,13 @@ returns-in_err-check_mbox-clause-asks g c =
 
 pub returns-clause-asks : goal.returns-clause-asks
 returns-clause-asks g c = λ kept.
-    let checks = c.in_ok-check_mbox.ensures.checks kept in
-    and_so (c.in_ok-stored.ensures.settles checks.0)
+    let (before, (tells, flushed)) = c.in_ok-check_mbox.ensures.checks kept in
+    and_so (c.in_ok-stored.ensures.settles before)
     (λ sound settles. asks_ok c.args.seen.now.intent _ _ _ c.in_ok-stored.stored c.args.listing.now
     (record { held = c.in_ok-held.held; odd = c.in_ok-odd.odd; stored = c.in_ok-stored.stored }) settles (
-      checks.1.0,
+      tells,
       rw (
-        all_seen (g.F.FlatFile.disk c.settle.new.mbox) (g.F.FlatFile.disk c.check_mbox.new.file) checks.1.1,
+        all_seen (g.F.FlatFile.disk c.settle.new.mbox) (g.F.FlatFile.disk c.check_mbox.new.file) flushed,
         c.in_ok-check_mbox.ensures.count,
       ) refl,
     ) refl
@@ -62,9 +62,9 @@ returns-clause-flags g c = (
 
 pub returns-clause-durable : goal.returns-clause-durable
 returns-clause-durable g c = λ kept trust.
-    let firm = all_trust (g.F.FlatFile.disk c.settle.new.mbox) (g.F.FlatFile.disk c.check_mbox.new.file)
-    (c.in_ok-check_mbox.ensures.checks kept).1.1 (c.in_ok-stored.ensures.durable (c.in_ok-check_mbox.ensures.checks kept).0 trust) in
-    durable_safe g.F.FlatFile c.check_mbox.new.file refl firm
+    let (before, (_, flushed)) = c.in_ok-check_mbox.ensures.checks kept in
+    durable_safe g.F.FlatFile c.check_mbox.new.file refl (all_trust (g.F.FlatFile.disk c.settle.new.mbox)
+    (g.F.FlatFile.disk c.check_mbox.new.file) flushed (c.in_ok-stored.ensures.durable before trust))
 
 -- what is left after another flush could be left before it
 settled_after_flush : (a b b' : Option (List ℕ) → Type 0) (intent : Option Intent) (content : Option (List ℕ)) → LeavesNoMore b b'
@@ -75,9 +75,11 @@ settled_after_flush a b b' (Some intent) content no_more leaves = λ left may. l
 check_leaves : (g : _) (c : After-check_mbox g) → g.F.FlatFile.sound c.check_mbox.new.file → Trusted (g.F.FlatFile.disk c.args.mbox.now).now
     → LeavesSettled c.args.seen.now.intent (stored_in g.F.FlatFile c.args.mbox.now).content
     (MayLeave (g.F.FlatFile.disk c.args.mbox.now)) (MayLeave (g.F.FlatFile.disk c.check_mbox.new.file))
-check_leaves g c kept trust = settled_after_flush _ _ _ c.args.seen.now.intent (stored_in g.F.FlatFile c.args.mbox.now).content
+check_leaves g c kept trust =
+    let (before, (_, flushed)) = c.check_mbox.ensures.checks kept in
+    settled_after_flush _ _ _ c.args.seen.now.intent (stored_in g.F.FlatFile c.args.mbox.now).content
     (durable_flush (g.F.FlatFile.disk c.settle.new.mbox) (g.F.FlatFile.disk c.check_mbox.new.file) c.check_mbox.result
-    (c.check_mbox.ensures.checks kept).1.1).no_more (c.settle.ensures.leaves (c.check_mbox.ensures.checks kept).0 trust)
+    flushed).no_more (c.settle.ensures.leaves before trust)
 
 pub returns-in_err-check_mbox-clause-leaves : goal.returns-in_err-check_mbox-clause-leaves
 returns-in_err-check_mbox-clause-leaves g c = check_leaves g (goal.at.returns-in_err-check_mbox-clause-leaves g c).After-check_mbox

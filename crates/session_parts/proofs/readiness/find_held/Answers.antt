@@ -5,26 +5,25 @@ use Rattle.session_parts.proofs.readiness.find_held.Goals as goal
 
 pub returns-clause-finds : goal.returns-clause-finds
 returns-clause-finds g c = λ d.
-    let found = c.in_ok-held.ensures.finds d in
-    let is = found.1.2 in (
-      found.0,
+    let (sound, (left, taken, ((flags, same, _, _, named, told), durable))) = c.in_ok-held.ensures.finds d in (
+      sound,
       (
-        found.1.0,
-        found.1.1,
+        left,
+        taken,
         (
-          rw (c.deref.ensures.value, c.in_ok-flags.ensures) at is.0.0,
+          rw (c.deref.ensures.value, c.in_ok-flags.ensures) at flags,
           refl,
-          is.0.1,
-          (is.0.4, rw (c.deref.ensures.value, c.in_ok-flags.ensures, is.0.1) at is.1),
-          rw is.0.1 at (c.in_ok-odd.ensures.flags d (rw is.0.1 is.0.5)),
+          same,
+          (named, rw (c.deref.ensures.value, c.in_ok-flags.ensures, same) at durable),
+          rw same at (c.in_ok-odd.ensures.flags d (rw same told)),
         ),
       ),
     )
 
 pub returns-in_err-odd-clause-finds : goal.returns-in_err-odd-clause-finds
 returns-in_err-odd-clause-finds g c = rw (err_is c.from_residual-in_err-odd.ensures.1) (λ d.
-    let found = c.in_ok-held.ensures.finds d in
-    (found.0, (found.1.0, found.1.1, found.1.2.0.1)))
+    let (sound, (left, taken, (finds, _))) = c.in_ok-held.ensures.finds d in
+    (sound, (left, taken, finds.1)))
 
 pub returns-clause-flags : goal.returns-clause-flags
 returns-clause-flags g c = (sym c.in_ok-held.held.ok.0 ∙ c.in_ok-held.ensures.length, (c.in_ok-odd.ensures.by_ids, tt))

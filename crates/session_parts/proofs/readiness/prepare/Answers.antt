@@ -31,12 +31,12 @@ returns-in-Some-clause-named g c = λ d. rest_named _ c.stay_idle.result c.in-So
 pub returns-in-Some-clause-readies : goal.returns-in-Some-clause-readies
 returns-in-Some-clause-readies g c = λ d f.
     let stays = c.stay_idle.ensures.readies d f in
-    let reads = c.in_ok-is_new.ensures.reads stays.1 in (
+    let (sound, (_, _, same)) = c.in_ok-is_new.ensures.reads stays.1 in (
       stays.0,
-      reads.0,
+      sound,
       untaken _ (rw c.stay_idle.ensures.seen (readies_from g.D.MaildirDisk g.F.FlatFile c.args.work.now.store c.args.work.now.ledger.file
           c.read.new.file c.stay_idle.new.work.ledger.file (same_leaves (c.in_ok-is_new.ensures.durable stays.1))
-          reads.1.2 (λ trust. tt) stays.2)),
+          same (λ trust. tt) stays.2)),
     )
 
 -- ---- the record can't be read or flushed, or there is no memory for a plan
@@ -49,16 +49,16 @@ returns-in_err-is_new-clause-readies g c = rw (err_is c.from_residual.ensures.1)
 
 pub returns-in_err-steps-clause-readies : goal.returns-in_err-steps-clause-readies
 returns-in_err-steps-clause-readies g c = rw (err_is c.from_residual-in_err-steps.ensures.1) (λ d f.
-    let reads = c.in_ok-is_new.ensures.reads f in
-    unasked _ _ _ _ c.read.new.file _ d reads.0 (search rules) (ap (λ (s : Stored). s.content) reads.1.2)
+    let (sound, (_, _, same)) = c.in_ok-is_new.ensures.reads f in
+    unasked _ _ _ _ c.read.new.file _ d sound (search rules) (ap (λ (s : Stored). s.content) same)
     (same_leaves (c.in_ok-is_new.ensures.durable f)))
 
 pub returns-in_err-secure-clause-readies : goal.returns-in_err-secure-clause-readies
 returns-in_err-secure-clause-readies g c = rw (err_is c.from_residual-in_err-secure.ensures.1) (λ d f.
     let secures = c.in_err-secure.ensures.same f in
-    let reads = c.in_ok-is_new.ensures.reads secures.0 in
-    unasked _ _ _ _ c.secure.new.file _ d reads.0 (search rules) (unsecured_same _ _ c.in_err-secure.field-0.0 secures.1
-    ∙ ap (λ (s : Stored). s.content) reads.1.2)
+    let (sound, (_, _, same)) = c.in_ok-is_new.ensures.reads secures.0 in
+    unasked _ _ _ _ c.secure.new.file _ d sound (search rules) (unsecured_same _ _ c.in_err-secure.field-0.0 secures.1
+    ∙ ap (λ (s : Stored). s.content) same)
     (λ left may. same_leaves (c.in_ok-is_new.ensures.durable secures.0) left (c.in_err-secure.ensures.keeps f left may)))
 
 -- ---- the store was asked
@@ -67,8 +67,8 @@ pub returns-clause-readies : goal.returns-clause-readies
 returns-clause-readies g c = λ d f.
     let tail = c.prepare_by_store.ensures.readies d f in
     let secures = c.in_ok-secure.ensures.same tail.1 in
-    let reads = c.in_ok-is_new.ensures.reads secures.0 in
-    told_of (tail.0, tail.2) reads.0 (λ left is. readies_from _ _ c.args.work.now.store c.args.work.now.ledger.file c.secure.new.file _
+    let (sound, (_, _, same)) = c.in_ok-is_new.ensures.reads secures.0 in
+    told_of (tail.0, tail.2) sound (λ left is. readies_from _ _ c.args.work.now.store c.args.work.now.ledger.file c.secure.new.file _
     (λ left may. same_leaves (c.in_ok-is_new.ensures.durable secures.0) left
-    (c.in_ok-secure.ensures.keeps tail.1 left may)) (secures.1 ∙ reads.1.2)
+    (c.in_ok-secure.ensures.keeps tail.1 left may)) (secures.1 ∙ same)
     (λ trust. (trust.0, c.in_ok-secure.ensures.durable tail.1 (rw (c.in_ok-is_new.ensures.durable secures.0) trust.1))) is)

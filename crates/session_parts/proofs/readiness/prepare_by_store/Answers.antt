@@ -8,17 +8,19 @@ use Rattle.session_parts.{
 use Rattle.session_parts.proofs.readiness.prepare_by_store.Goals as goal
 
 pub plan_without-requires : goal.plan_without-requires
-plan_without-requires g c = ap length c.deref.ensures.value ∙ by_ids_length _ _ c.in_ok-found.ensures.flags.1.0
+plan_without-requires g c = let (_, (by, _)) = c.in_ok-found.ensures.flags in
+    ap length c.deref.ensures.value ∙ by_ids_length _ _ by
 
 pub returns-clause-plans : goal.returns-clause-plans
 returns-clause-plans g c =
-    let by = c.in_ok-found.ensures.flags.1.0 in let steps = c.in_ok-steps.ensures by.0 (c.deref.ensures.value ∙ by.1) in record {
-      is_odd = by.0;
-      may_be = c.in_ok-found.ensures.flags.1.1;
+    let (length_held, ((is_odd, odd), may_be)) = c.in_ok-found.ensures.flags in
+    let steps = c.in_ok-steps.ensures is_odd (c.deref.ensures.value ∙ odd) in record {
+      is_odd = is_odd;
+      may_be = may_be;
       steps = steps;
       lengths = (
-        ap length steps ∙ planned_length c.args.terms.settings.now by.0 c.take_in.new.seen.rows c.args.listing.now c.args.terms.now,
-        c.in_ok-found.ensures.flags.0,
+        ap length steps ∙ planned_length c.args.terms.settings.now is_odd c.take_in.new.seen.rows c.args.listing.now c.args.terms.now,
+        length_held,
       );
       rows = all_have_rows c.listed_has_row.ensures _ c.args.listing.now _ c.args.terms.now c.take_in.new.seen.rows
           c.in_ok-take_in.ensures.rows;
@@ -27,23 +29,23 @@ returns-clause-plans g c =
 
 pub returns-clause-held : goal.returns-clause-held
 returns-clause-held g c = λ d.
-    let stays = c.in_ok-found.ensures.stays d in
+    let (_, _, (held, named)) = c.in_ok-found.ensures.stays d in
     let settings = c.args.terms.settings.now in
     let was = c.args.work.now.ledger.seen in
     let rows = c.take_in.new.seen.rows in
     let steps = c.in_ok-steps.steps.items in
-    let by = c.in_ok-found.ensures.flags.1.0 in
-    let only_asked = rw (sym (c.in_ok-steps.ensures by.0 (c.deref.ensures.value ∙ by.1))) at
-    (c.only_asked_for_are_fetched.ensures settings by.0 rows c.args.listing.now c.args.terms.now) in (
-      rw stays.2.0 (found_as_held (target_of c.args.work.now.store c.args.terms.account.now) _ settings was.rows rows
+    let (_, ((is_odd, odd), _)) = c.in_ok-found.ensures.flags in
+    let only_asked = rw (sym (c.in_ok-steps.ensures is_odd (c.deref.ensures.value ∙ odd))) at
+    (c.only_asked_for_are_fetched.ensures settings is_odd rows c.args.listing.now c.args.terms.now) in (
+      rw held (found_as_held (target_of c.args.work.now.store c.args.terms.account.now) _ settings was.rows rows
           steps c.args.listing.now (not_before c.held_is_delivered.ensures c.marked_is_delivered.ensures c.in_ok-found.found.stored was.rows
           was.intent c.args.listing.now c.in_ok-found.found.held.items c.args.terms.now rows c.in_ok-take_in.ensures.rows) only_asked),
-      stays.2.1,
+      named,
     )
 
 pub returns-clause-steady : goal.returns-clause-steady
 returns-clause-steady g c = λ f.
-    let merges = c.in_ok-take_in.ensures.merges f in (merges.0, rw c.in_ok-take_in.ensures.rows merges.1.1)
+    let (sound, (_, steady)) = c.in_ok-take_in.ensures.merges f in (sound, rw c.in_ok-take_in.ensures.rows steady)
 
 pub returns-in_err-found-clause-readies : goal.returns-in_err-found-clause-readies
 returns-in_err-found-clause-readies g c = rw (err_is c.from_residual.ensures.1)
@@ -95,9 +97,9 @@ returns-in_err-steps-clause-readies g c = rw (err_is c.from_residual-in_err-step
 pub returns-clause-readies : goal.returns-clause-readies
 returns-clause-readies g c = λ d f.
     let merges = c.in_ok-take_in.ensures.merges f in
-    let by = c.in_ok-found.ensures.flags.1.0 in
-    let only_asked = rw (sym (c.in_ok-steps.ensures by.0 (c.deref.ensures.value ∙ by.1))) at
-    (c.only_asked_for_are_fetched.ensures c.args.terms.settings.now by.0 c.take_in.new.seen.rows c.args.listing.now c.args.terms.now) in
+    let (_, ((is_odd, odd), _)) = c.in_ok-found.ensures.flags in
+    let only_asked = rw (sym (c.in_ok-steps.ensures is_odd (c.deref.ensures.value ∙ odd))) at
+    (c.only_asked_for_are_fetched.ensures c.args.terms.settings.now is_odd c.take_in.new.seen.rows c.args.listing.now c.args.terms.now) in
     told_of (c.in_ok-found.ensures.finds d) merges.0 (λ left finds.
     ready _ _ _ _ _ c.take_in.new.file c.args.terms.account.now _ _ _ left c.args.work.now.ledger.seen
     c.in_ok-found.found (c.requires.read.stands merges.0) c.merges_ask_only_for_new_ids.ensures c.requires.is_record finds

@@ -16,10 +16,10 @@ measure-requires g c = record {
 pub grow-requires : goal.grow-requires
 grow-requires g c = record {
   begun = λ kept some.
-      let did = c.in_ok-size.ensures.measures kept in
+      let (sound, ((_, flushed), _)) = c.in_ok-size.ensures.measures kept in
       row_begun (seen_on (g.F.FlatFile.disk c.measure.new.file)) c.args.seen.now.rows None c.args.uid.now
-      (rw (all_seen (g.F.FlatFile.disk c.args.file.now) (g.F.FlatFile.disk c.measure.new.file) did.1.0.1)
-      (c.requires.written.steady did.0)) c.requires.row;
+      (rw (all_seen (g.F.FlatFile.disk c.args.file.now) (g.F.FlatFile.disk c.measure.new.file) flushed)
+      (c.requires.written.steady sound)) c.requires.row;
 }
 
 -- the line that was appended opens the intent
