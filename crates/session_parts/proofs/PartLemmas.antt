@@ -300,6 +300,13 @@ module _ {W D F H Z : Type 0} {link : WireGhosts W} {disk : DiskGhosts D} {file 
     λ s d f. did_then (did s d f) (good_before ys),
   )
 
+  -- the same of an equal answer and of equal tasks
+  pub runs_same : {xs ys : List Task} {r given : Result (Unit {0}) Cut} {c c' : Client W} {w w' : Work D F H Z} → given ≡ r → ys ≡ xs
+      → RunsTasks link disk file account xs c w r c' w' → RunsTasks link disk file account ys c w given c' w'
+  runs_same {xs} {ys} {r} {c = c} {c'} {w} {w'} same tasks runs =
+      subst (λ (given : Result (Unit {0}) Cut). RunsTasks link disk file account ys c w given c' w') (sym same)
+      (subst (λ (zs : List Task). RunsTasks link disk file account zs c w r c' w') (sym tasks) runs)
+
 -- ---- one task
 
 -- what a task did, and what of it is durable
@@ -425,16 +432,16 @@ pub record Filed {W D F H Z : Type 0} (link : WireGhosts W) (disk : DiskGhosts D
       × OnErr r (LeavesFile file l'.file (AreLeft l.seen.rows l.seen.rows) ⊎ OneDurable (disk.maildir d) (disk.maildir d'))
 
 pub filed : {W D F H Z : Type 0} {link : WireGhosts W} {disk : DiskGhosts D} {file : FileGhosts F} {account : List ℕ}
-    {number : ℕ} {uid : List ℕ} {c : Client W} {d : D} {l : Ledger F H Z} {r : Result (Unit {0}) Cut} {c' : Client W} {d' : D}
-    {l' : Ledger F H Z} → OneMore → IsWritten file l.file l.seen → Filed link disk file account number uid c d l r c' d' l'
-    → RunsTasks link disk file account (stores number uid ∷ []) c (over_maildir d l) r c' (over_maildir d' l')
-filed {number = number} {uid} {l = l} {r} law written is =
-    runs_taking law number uid r written is.talk is.ledger refl is.grows is.takes (λ d f. (
+    {number : ℕ} {uid : List ℕ} {c : Client W} {d : D} {l : Ledger F H Z} {given r : Result (Unit {0}) Cut} {c' : Client W} {d' : D}
+    {l' : Ledger F H Z} → given ≡ r → OneMore → IsWritten file l.file l.seen → Filed link disk file account number uid c d l r c' d' l'
+    → RunsTasks link disk file account (stores number uid ∷ []) c (over_maildir d l) given c' (over_maildir d' l')
+filed {number = number} {uid} {l = l} {r = r} same law written is =
+    runs_same same refl (runs_taking law number uid r written is.talk is.ledger refl is.grows is.takes (λ d f. (
       (λ bytes has left. left, is.keeps f l.seen.rows),
       λ safe.
           let durable = is.durable d f safe.0 in
           (on_ok_weaker r (λ all. (all, tt)) durable.0, λ s. err_if _ r durable.1),
-    ))
+    )))
 
 -- a text that was to be appended to an mboxrd file
 pub record Entered {W D F H Z : Type 0} (link : WireGhosts W) (disk : DiskGhosts D) (file : FileGhosts F)
@@ -458,14 +465,13 @@ pub entered : {W D F H Z : Type 0} {link : WireGhosts W} {disk : DiskGhosts D} {
     {uid : List ℕ} {c : Client W} {m : F} {l : Ledger F H Z} {given r : Result (Unit {0}) Cut} {c' : Client W} {m' : F}
     {l' : Ledger F H Z} → given ≡ r → OneMore → IsWritten file l.file l.seen → Entered link disk file number uid c m l r c' m' l'
     → (account : List ℕ) → RunsTasks link disk file account (stores number uid ∷ []) c (over_mbox m l) given c' (over_mbox m' l')
-entered {link = link} {disk} {file} {number} {uid} {c} {m} {l} {r = r} {c'} {m'} {l'} same law written is account =
-    subst (λ (q : Result (Unit {0}) Cut). RunsTasks link disk file account (stores number uid ∷ []) c (over_mbox m l) q c'
-    (over_mbox m' l')) (sym same) (runs_taking law number uid r written is.talk is.ledger refl
+entered {number = number} {uid} {r = r} same law written is account =
+    runs_same same refl (runs_taking law number uid r written is.talk is.ledger refl
     (λ d. (is.before d, record { none_begun = refl; came = inl refl }, on_any r tt)) is.takes (λ d f. (
       is.keeps d f,
-      λ safe.
-          let durable = is.durable d f safe.1.0 safe.0 in
-          (on_ok_weaker r (λ all. (all.1, all.0)) durable.0, durable.1 safe.1),
+      λ (safe, store_safe).
+          let durable = is.durable d f store_safe.0 safe in
+          (on_ok_weaker r (λ all. (all.1, all.0)) durable.0, durable.1 store_safe),
     )))
 
 -- ---- what the look left

@@ -1,5 +1,5 @@
 use Rattle.std.proofs.{
-  Common.{⊎_elim, ◌≡◌, ◌≢◌, Ok, inr, ◌<◌, ◌+◌, [], ◌++◌, length, take, arith, sym, ap, ◌∙◌, inl, is_some, string_bytes, refl},
+  Common.{⊎_elim, ◌≡◌, ◌≢◌, ℕ, List, Ok, inr, ◌<◌, ◌+◌, [], ◌++◌, length, take, arith, sym, ap, ◌∙◌, inl, is_some, string_bytes, refl},
   lemmas.Bool.false≢true,
 }
 use Rattle.mail_store.specs.Maildir.{Maildir, maildir_refused, draft, dropped}
@@ -39,28 +39,31 @@ returns-in-Err-put_piece-clause-stores g c =
     let inv = c.pieces.invariant.2 in (
       inv.0 ++ take c.in-Ok.piece.put c.next_piece.new.out,
       λ d.
-          let puts = c.in-Err-put_piece.ensures.puts d in
-          let was = inv.2 puts.0 in
-          (was.0, inr (puts.1.0, inl ((rw was.1 at puts.1.1) (draft (string_bytes c.args.stem) inv.0) refl))),
+          let (sound, (fault, puts)) = c.in-Err-put_piece.ensures.puts d in
+          let was = inv.2 sound in
+          (was.0, inr (fault, inl ((rw was.1 at puts) (draft (string_bytes c.args.stem) inv.0) refl))),
       and_then g.W.Wire g.met.W.Wire.leads_on inv.3 c.in-Ok.ensures.takes (λ before took number start now. let more =
           took number start inv.0 (before number start now) in (more.0, λ done. more.1 (c.in-Ok.ensures.took.ended.1 done))),
     )
+
+-- what was written, with this piece
+abbrev so_far : (g : _) → After-put_piece g → List ℕ
+so_far g c = let (_, _, (text, _, _, _), _, _) = c.pieces.invariant in text ++ take c.in-Ok.piece.put c.next_piece.new.out
 
 -- the piece was appended to what was written before
 put : (g : _) (c : After-put_piece g) → g.D.MaildirDisk.sound c.pieces.disk
     × PutsBytes (g.D.MaildirDisk.maildir c.pieces.disk) (take c.in-Ok.piece.put c.next_piece.new.out) (Ok tt)
     (g.D.MaildirDisk.maildir c.put_piece.new.disk) → g.D.MaildirDisk.sound c.args.disk.now
     × (g.D.MaildirDisk.maildir c.put_piece.new.disk ≡ begun_with (g.D.MaildirDisk.maildir c.args.disk.now)
-    (draft (string_bytes c.args.stem) (c.pieces.invariant.2.0 ++ take c.in-Ok.piece.put c.next_piece.new.out)))
+    (draft (string_bytes c.args.stem) (so_far g c)))
 put g c puts =
     let inv = c.pieces.invariant.2 in
     let was = inv.2 puts.0 in
     (was.0, (rw was.1 at puts.1) (draft (string_bytes c.args.stem) inv.0) refl)
 
-length_so_far : (g : _) (c : After-put_piece g) → c.pieces.length + c.in-Ok.piece.put
-    ≡ length (c.pieces.invariant.2.0 ++ take c.in-Ok.piece.put c.next_piece.new.out)
-length_so_far g c = longer c.pieces.length c.in-Ok.piece.put c.pieces.invariant.2.0 c.next_piece.new.out c.pieces.invariant.2.1
-    c.in-Ok.ensures.took.fits
+length_so_far : (g : _) (c : After-put_piece g) → c.pieces.length + c.in-Ok.piece.put ≡ length (so_far g c)
+length_so_far g c = let (_, _, (text, long, _, _), _, _) = c.pieces.invariant in
+    longer c.pieces.length c.in-Ok.piece.put text c.next_piece.new.out long c.in-Ok.ensures.took.fits
 
 pub settle_file-requires-clause-begun : goal.settle_file-requires-clause-begun
 settle_file-requires-clause-begun g c = λ d. ap (λ (m : Maildir). is_some m.begun)
@@ -80,7 +83,7 @@ pub returns-in-Ok-settle_file-clause-stores : goal.returns-in-Ok-settle_file-cla
 returns-in-Ok-settle_file-clause-stores g c =
     let here = (goal.at.returns-in-Ok-settle_file-clause-stores g c).After-put_piece in
     let inv = c.pieces.invariant.2 in (
-      inv.0 ++ take c.in-Ok.piece.put c.next_piece.new.out,
+      so_far g here,
       λ d.
           let ends = c.in-Ok-settle_file.ensures.ends d in
           let now = put g here (c.in_default-put_piece.ensures.puts ends.0) in (
@@ -98,15 +101,15 @@ pub returns-in-Err-settle_file-clause-stores : goal.returns-in-Err-settle_file-c
 returns-in-Err-settle_file-clause-stores g c =
     let here = (goal.at.returns-in-Err-settle_file-clause-stores g c).After-put_piece in
     let inv = c.pieces.invariant.2 in (
-      inv.0 ++ take c.in-Ok.piece.put c.next_piece.new.out,
+      so_far g here,
       λ d.
-          let ends = c.in-Err-settle_file.ensures.ends d in
-          let now = put g here (c.in_default-put_piece.ensures.puts ends.0) in (
+          let (sound, (fault, ends)) = c.in-Err-settle_file.ensures.ends d in
+          let now = put g here (c.in_default-put_piece.ensures.puts sound) in (
             now.0,
             inr (
-              ends.1.0,
+              fault,
               ⊎_elim inl (λ is. inr (c.in-Ok.ensures.took.ended.0 c.if-piece.true, is))
-                  ((rw (now.1, length_so_far g here) at ends.1.1) (draft (string_bytes c.args.stem) _) refl),
+                  ((rw (now.1, length_so_far g here) at ends) (draft (string_bytes c.args.stem) _) refl),
             ),
           ),
       and_then g.W.Wire g.met.W.Wire.leads_on inv.3 c.in-Ok.ensures.takes (λ before took number start now. let more =
@@ -123,7 +126,7 @@ pieces-preserved g c =
       not_done,
       omega (arith, c.pieces.invariant.1, c.in-Ok.ensures.took.fits, longest, less),
       (
-        inv.0 ++ take c.in-Ok.piece.put c.next_piece.new.out,
+        so_far g here,
         length_so_far g here,
         λ d. put g here (c.in_default-put_piece.ensures.puts d),
         and_then g.W.Wire g.met.W.Wire.leads_on inv.3 c.in-Ok.ensures.takes

@@ -42,7 +42,7 @@ line_noted : (g : _) (c : After-note g) → AddsLines c.args.ledger.now.lines 1 
 line_noted g c = (omega (arith, c.note.ensures.len), c.note.ensures.capacity)
 
 pub returns-in_err-stem : goal.returns-in_err-stem
-returns-in_err-stem g c = rw (err_is c.from_residual.ensures.1) (filed c.one_more_is_held.ensures c.requires.ready.written (record {
+returns-in_err-stem g c = filed (err_is c.from_residual.ensures.1) c.one_more_is_held.ensures c.requires.ready.written (record {
   talk = link_idle;
   ledger = same_ledger c.args.uid.now c.args.ledger.now _ c.requires.ready.written;
   grows = search rules;
@@ -53,11 +53,11 @@ returns-in_err-stem g c = rw (err_is c.from_residual.ensures.1) (filed c.one_mor
   ));
   keeps = search rules;
   durable = λ d f safe. (tt, inl (same_left g.F.FlatFile c.args.ledger.now.file safe (c.requires.ready.written.steady f)));
-}))
+})
 
 pub returns-in_err-body : goal.returns-in_err-body
-returns-in_err-body g c = rw (err_is c.from_residual-in_err-body.ensures.1)
-    (filed c.one_more_is_held.ensures c.requires.ready.written (record {
+returns-in_err-body g c =
+    filed (err_is c.from_residual-in_err-body.ensures.1) c.one_more_is_held.ensures c.requires.ready.written (record {
       talk = link_broke c.conversations_are_paced.ensures (retr c.args.number) c.in_err-body.field-0.0 c.open.ensures.link
           c.in_err-body.ensures.counted c.in_err-body.ensures.opens;
       ledger = same_ledger c.args.uid.now c.args.ledger.now _ c.requires.ready.written;
@@ -66,13 +66,13 @@ returns-in_err-body g c = rw (err_is c.from_residual-in_err-body.ensures.1)
           (text_broken (AsFiles c.args.account.now) c.in_err-body.field-0.0 refl));
       keeps = search rules;
       durable = λ d f safe. (tt, inl (same_left g.F.FlatFile c.args.ledger.now.file safe (c.requires.ready.written.steady f)));
-    }))
+    })
 
 pub returns-in_err-length : goal.returns-in_err-length
 returns-in_err-length g c =
     let stores = c.in_err-length.ensures.stores in
     let cut = c.in_err-length.field-0.0 in
-    rw (err_is c.from_residual-in_err-length.ensures.1) (filed c.one_more_is_held.ensures c.requires.ready.written (record {
+    filed (err_is c.from_residual-in_err-length.ensures.1) c.one_more_is_held.ensures c.requires.ready.written (record {
       talk = record {
         same = c.store_text.ensures.link ∙ c.open.ensures.link;
         counted = before_cut (link_of g.W.Wire c.args.client.now) (link_of g.W.Wire c.open.new.self)
@@ -89,7 +89,7 @@ returns-in_err-length g c =
           c.in_ok-stem.ensures.stem stored link);
       keeps = λ f rows last. last;
       durable = λ d f safe. (tt, inl (same_left g.F.FlatFile c.args.ledger.now.file safe (c.requires.ready.written.steady f)));
-    }))
+    })
 
 -- what marking the id leaves of the record's file
 remember_law : (g : _) (c : After-remember g) (r : Result (Unit {0}) Fault) → FileDid g.F.FlatFile (AppendsRecord
@@ -118,17 +118,16 @@ returns g c =
     let marks = c.in_ok-remember.ensures in
     let law = remember_law g here.After-remember (Ok tt) marks.appends in
     let ready = c.requires.ready.written in
-    filed c.one_more_is_held.ensures c.requires.ready.written (record {
+    filed refl c.one_more_is_held.ensures c.requires.ready.written (record {
       talk = text_was_read g here.In_ok-length;
       ledger = marked_ledger (Ok tt) c.marked_keeps_rows.ensures refl (line_noted g here.After-note) (λ f. (marks.appends f).0) (
         marks.rows,
         record { closed = marks.closed; steady = λ f. rw marks.rows ((law f).sees.1 (ready.steady (marks.appends f).0)) },
       ) (λ f safe. (law f).leaves (ready.steady (marks.appends f).0) safe);
-      grows = λ d. let grew = gains_text g here.After-store_text d in (
-        grew.0,
-        grew.1,
-        rw (stores.1 d).1.0 (named_more (g.D.MaildirDisk.maildir c.args.disk.now).files _ (c.requires.named grew.0).0 refl),
-      );
+      grows = λ d.
+          let (sound, grew) = gains_text g here.After-store_text d in
+          let (_, (stored, _)) = stores.1 d in
+          (sound, grew, rw stored (named_more (g.D.MaildirDisk.maildir c.args.disk.now).files _ (c.requires.named sound).0 refl));
       takes = all_sound (and_then g.W.Wire g.met.W.Wire.leads_on c.in_ok-body.ensures.opens stores.2
           (λ opened link. link c.args.number _ opened)) stores.1 (λ f. ((marks.appends f).0, (law f).sees))
           (λ link stored saved. text_stored c.in_ok-length.length stores.0 (string_bytes c.in_ok-stem.stem)
@@ -144,7 +143,7 @@ returns-in_err-remember g c =
     let marks = c.in_err-remember.ensures in
     let law = remember_law g here.After-remember (Err c.in_err-remember.field-0.0) marks.appends in
     let ready = c.requires.ready.written in
-    rw (err_is c.from_residual-in_err-remember.ensures.1) (filed c.one_more_is_held.ensures c.requires.ready.written (record {
+    filed (err_is c.from_residual-in_err-remember.ensures.1) c.one_more_is_held.ensures c.requires.ready.written (record {
       talk = link_then_cut (text_was_read g here.In_ok-length);
       ledger = marked_ledger (Err _) c.marked_keeps_rows.ensures refl (line_noted g here.After-note) (λ f. (marks.appends f).0) tt
           (λ f safe. (law f).leaves (ready.steady (marks.appends f).0) safe);
@@ -154,5 +153,6 @@ returns-in_err-remember g c =
           (λ link stored saved. text_not_saved c.in_ok-length.length stores.0 (string_bytes c.in_ok-stem.stem)
           c.in_err-remember.field-0.0 c.in_ok-stem.ensures.stem stored link saved c.note.ensures.items);
       keeps = λ f. (law f).keeps;
-      durable = λ d f safe. (tt, inr (sized_file (string_bytes c.in_ok-stem.stem) stores.0, rw (stores.1 d).1.0 refl, (refl, refl)));
-    }))
+      durable = λ d f safe. let (_, (stored, _)) = stores.1 d in
+          (tt, inr (sized_file (string_bytes c.in_ok-stem.stem) stores.0, rw stored refl, (refl, refl)));
+    })

@@ -237,7 +237,7 @@ returns-in_err-remember g c =
         tt,
         λ whole w firm bytes has left may now is seen there.
             let before = (marks.appends f).0 in
-            let all = (entry_law g here.After-append_text (Ok tt) wrote m before).durable trust safe in
+            let (mbox_safe, file_safe) = (entry_law g here.After-append_text (Ok tt) wrote m before).durable trust safe in
             let (mbox_sound, file_sound, (was, follows, holds, opened, saves)) = sees g here.After-append_text (Ok tt) wrote m before in
             let text = c.in_ok-text.text.items in
             let (u, its, texts) = entry_not_saved c.len-length.result text
@@ -248,8 +248,8 @@ returns-in_err-remember g c =
               u,
               rw (its, texts) (subst (λ (b : List ℕ). IsEntryLeft c.args.ledger.now.seen.rows b c.args.uid.now text seen left)
                   (same_Some was bytes (sym follows.0 ∙ has)) (inr (inr (
-                    rw (kept.ledger.rows, opened) at ((marked f).leaves (ready.steady before).1 all.1 now is seen there),
-                    (all.0.1 (was ++ entry_of text) (ap (λ (s : Stored). s.content) holds)).1 left may,
+                    rw (kept.ledger.rows, opened) at ((marked f).leaves (ready.steady before).1 file_safe now is seen there),
+                    (mbox_safe.1 (was ++ entry_of text) (ap (λ (s : Stored). s.content) holds)).1 left may,
                   )))),
             )),
       );
