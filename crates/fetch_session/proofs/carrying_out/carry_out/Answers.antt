@@ -20,14 +20,14 @@ use Rattle.fetch_session.proofs.carrying_out.carry_out.Goals as goal
 
 pub returns-in_err-ready-clause-carries : goal.returns-in_err-ready-clause-carries
 returns-in_err-ready-clause-carries g c = rw (err_is c.from_residual.ensures.1) (λ w d f.
-    let ready = c.in_err-ready.ensures.readies d f in (
+    let (store, file, (left, taken, is)) = c.in_err-ready.ensures.readies d f in (
       w,
-      ready.0,
-      ready.1,
+      store,
+      file,
       g.met.W.Wire.leads_same c.args.client.now.wire.now,
       (
-        ready.2.0,
-        ready.2.1,
+        left,
+        taken,
         (
           (
             [],
@@ -35,14 +35,14 @@ returns-in_err-ready-clause-carries g c = rw (err_is c.from_residual.ensures.1) 
               c.requires.none_skipped,
               (record {
                 none = refl;
-                unready = ready.2.2.readies;
+                unready = is.readies;
                 place_is = refl;
                 lines_are =
                     ap (λ lines. lines.items) c.in_err-ready.ensures.store.lines;
               }),
             ),
           ),
-          ready.2.2.durable,
+          is.durable,
         ),
       ),
     ))
@@ -97,12 +97,13 @@ abbrev tasks_on : (g : _) (c : After-deref-3 g) → List Task
 tasks_on g c = tasks_planned c.deref-2.result.now c.args.listing.now c.deref-3.result.now ++ says quit ∷ []
 
 -- what was done once all was ready, up to a fault or QUIT's reply
-carries : (g : _) (c : After-deref-3 g) (r : Result (Unit {0}) Cut) {client : Client g.row.W.Denot}
-    {work : Work g.row.D.Denot g.row.F.Denot _ _}
+carries : (g : _) (c : After-deref-3 g) {given : Result (Unit {0}) Cut} (r : Result (Unit {0}) Cut) {client : Client g.row.W.Denot}
+    {work : Work g.row.D.Denot g.row.F.Denot _ _} → given ≡ r
     → RunsTasks g.W.Wire g.D.MaildirDisk g.F.FlatFile c.args.terms.account.now (tasks_on g c) c.args.client.now
     c.prepare.new.work r client work → RunsListing g.W.Wire g.D.MaildirDisk g.F.FlatFile c.args.terms c.args.listing.now
-    c.args.client.now c.args.work.now r client work c.skips_of.result
-carries g c r (keeps, does) = λ w d f.
+    c.args.client.now c.args.work.now given client work c.skips_of.result
+carries g c r {client} {work} same (keeps, does) = subst (λ (result : Result (Unit {0}) Cut). RunsListing g.W.Wire g.D.MaildirDisk
+    g.F.FlatFile c.args.terms c.args.listing.now c.args.client.now c.args.work.now result client work c.skips_of.result) (sym same) (λ w d f.
     let done = does w d f in
     let ready = c.in_ok-ready.ensures.readies done.1 done.2 in
     let before = c.prepare.new.work in
@@ -112,7 +113,7 @@ carries g c r (keeps, does) = λ w d f.
     before.ledger.lines.items c.deref-2.result.now c.deref-3.result.now
     (ap (λ lines. lines.items) c.prepare.ensures.store.lines) is.readies c.deref-2.ensures.value c.deref-3.ensures.value
     (c.skips_of.ensures ∙ ap skips_of c.deref.ensures.value) is.durable (λ none. ((keeps.idle none).0, (keeps.idle none).1 d))
-    (in_kind before.store was.store c.args.terms.account.now c.prepare.ensures.store.kind done.4 (λ safe. safe)))
+    (in_kind before.store was.store c.args.terms.account.now c.prepare.ensures.store.kind done.4 (λ safe. safe))))
 
 -- ---- what calls leave as it was
 
@@ -155,14 +156,14 @@ listener_told g c work back =
         refl,
         λ d f.
             let before = back d f in
-            let ready = (c.in_ok-ready.ensures.readies before.0 before.1).2 in (
-              ready.0,
-              ready.1,
+            let (_, _, (left, taken, ready)) = c.in_ok-ready.ensures.readies before.0 before.1 in (
+              left,
+              taken,
               (
-                ready.2.readies.was,
-                ready.2.readies.stood,
-                ready.2.readies.rows,
-                is ∙ c.deref-4.ensures.value ∙ ready.2.readies.steps,
+                ready.readies.was,
+                ready.readies.stood,
+                ready.readies.rows,
+                is ∙ c.deref-4.ensures.value ∙ ready.readies.steps,
               ),
             ),
       );
@@ -175,14 +176,15 @@ pub returns-in_err-do_steps : goal.returns-in_err-do_steps
 returns-in_err-do_steps g c =
     let here = goal.at.returns-in_err-do_steps g c in
     let done = c.in_err-do_steps.ensures in
-    rw (err_is c.from_residual-in_err-do_steps.ensures.1) (record {
-      link = link_with_tail (link_less (length c.args.listing.now * step_limit)
-          (most_planned c.deref-2.result.now c.args.listing.now c.deref-3.result.now).0 done.runs.0.talk);
+    let same = err_is c.from_residual-in_err-do_steps.ensures.1 in
+    record {
+      link = rw same (link_with_tail (link_less (length c.args.listing.now * step_limit)
+          (most_planned c.deref-2.result.now c.args.listing.now c.deref-3.result.now).0 done.runs.0.talk));
       store = store_stood g here.After-do_steps;
-      carries = carries g here.After-deref-3 (Err c.in_err-do_steps.field-0.0) (runs_before _ _ done.runs);
+      carries = carries g here.After-deref-3 (Err c.in_err-do_steps.field-0.0) same (runs_before _ _ done.runs);
       heard = listener_told g here.After-do_steps c.do_steps.new.work
           (λ d f. ((done.runs.0.store.none_begun d).0, (done.runs.0.durable d f).0));
-    })
+    }
 
 pub returns : goal.returns
 returns g c =
@@ -193,7 +195,7 @@ returns g c =
     record {
       link = link_on_tail (omega arith) (did g here.In_ok-do_steps) last.link;
       store = store_on (omega arith) (store_stood g here.After-do_steps) c.end.ensures.store;
-      carries = carries g here.After-deref-3 (Ok tt) all;
+      carries = carries g here.After-deref-3 (Ok tt) refl all;
       heard = listener_told g here.After-do_steps c.end.new.work (λ d f. ((all.0.store.none_begun d).0, (all.0.durable d f).0));
     }
 
@@ -203,12 +205,13 @@ returns-in_err-end g c =
     let first = c.in_ok-do_steps.ensures in
     let last = c.in_err-end.ensures in
     let all = goes_on c.turns_join.ensures g.met.W.Wire.leads_on _ _ (Err c.in_err-end.field-0.0) first.runs (last.runs _) in
-    rw (err_is c.from_residual-in_err-end.ensures.1) (record {
-      link = link_on_tail (omega arith) (did g here.In_ok-do_steps) last.link;
+    let same = err_is c.from_residual-in_err-end.ensures.1 in
+    record {
+      link = rw same (link_on_tail (omega arith) (did g here.In_ok-do_steps) last.link);
       store = store_on (omega arith) (store_stood g here.After-do_steps) c.end.ensures.store;
-      carries = carries g here.After-deref-3 (Err c.in_err-end.field-0.0) all;
+      carries = carries g here.After-deref-3 (Err c.in_err-end.field-0.0) same all;
       heard = listener_told g here.After-do_steps c.end.new.work (λ d f. ((all.0.store.none_begun d).0, (all.0.durable d f).0));
-    })
+    }
 
 pub returns-in_err-ready-clause-link : goal.returns-in_err-ready-clause-link
 returns-in_err-ready-clause-link g c =

@@ -5,7 +5,7 @@ use Rattle.std.proofs.{
 use Rattle.fetch_rules.specs.declared.plans.Step.{Step}
 use Rattle.session_parts.{
   proofs.{TalkLemmas.err_is, ReadyLemmas.{later_at, empty_item, step_at, tasks_left}},
-  proofs.PartLemmas.{runs_before, runs_nothing, goes_on, ready_front},
+  proofs.PartLemmas.{runs_before, runs_nothing, runs_same, goes_on, ready_front},
   specs.{Parts.IsReadyFor, Task.{Task, deleting, tasks_planned}},
 }
 use Rattle.fetch_session.{proofs.step.do_steps.Goals.{After-first_task-first, After-loop-i}, specs.Runs.task_of}
@@ -37,8 +37,8 @@ split g c =
 -- all is ready for that
 ready_now : (g : _) (c : After-first_task-first g)
     → IsReadyFor g.D.MaildirDisk g.F.FlatFile c.args.account.now (now g c) c.loop-i.work
-ready_now g c = ready_front (now g c) (later g c) (c.loop-i.invariant.2.0.next (now g c ++ later g c)
-    (rw (split g c, append_assoc) at c.requires.ready))
+ready_now g c = let (_, _, (kept, _), _) = c.loop-i.invariant in
+    ready_front (now g c) (later g c) (kept.next (now g c ++ later g c) (rw (split g c, append_assoc) at c.requires.ready))
 
 pub do_task-requires : goal.do_task-requires
 do_task-requires g c =
@@ -68,7 +68,7 @@ pub returns-in_err-do_task-clause-runs : goal.returns-in_err-do_task-clause-runs
 returns-in_err-do_task-clause-runs g c =
     let d = (goal.at.returns-in_err-do_task-clause-runs g c).After-first_task-first in
     let inv = c.loop-i.invariant in
-    rw (err_is c.from_residual.ensures.1, split g d) (runs_before (inv.0 ++ now g d) (later g d)
+    runs_same (err_is c.from_residual.ensures.1) (split g d) (runs_before (inv.0 ++ now g d) (later g d)
     (goes_on c.turns_join.ensures g.met.W.Wire.leads_on inv.0 (now g d) (Err c.in_err-do_task.field-0.0) inv.2
     (runs_before (task_of c.first_task-first.result ∷ []) (deletion g d) c.in_err-do_task.ensures)))
 
@@ -79,7 +79,7 @@ returns-in_err-delete-clause-runs g c =
     let done = c.in_ok-do_task.ensures in
     let joins = c.turns_join.ensures in
     let leads = g.met.W.Wire.leads_on in
-    rw (err_is c.from_residual-in_err-delete.ensures.1, split g d) (runs_before (inv.0 ++ now g d) (later g d)
+    runs_same (err_is c.from_residual-in_err-delete.ensures.1) (split g d) (runs_before (inv.0 ++ now g d) (later g d)
     (goes_on joins leads inv.0 (now g d) (Err c.in_err-delete.field-0.0) inv.2 (goes_on joins leads
     (task_of c.first_task-first.result ∷ []) (deletion g d) (Err c.in_err-delete.field-0.0) done
     (c.in_err-delete.ensures c.args.account.now (done.0.next (deletion g d) (ready_now g d))))))
