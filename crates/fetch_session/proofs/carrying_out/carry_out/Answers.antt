@@ -103,7 +103,8 @@ carries : (g : _) (c : After-deref-3 g) {given : Result (Unit {0}) Cut} (r : Res
     c.prepare.new.work r client work → RunsListing g.W.Wire g.D.MaildirDisk g.F.FlatFile c.args.terms c.args.listing.now
     c.args.client.now c.args.work.now given client work c.skips_of.result
 carries g c r {client} {work} same (keeps, does) = subst (λ (result : Result (Unit {0}) Cut). RunsListing g.W.Wire g.D.MaildirDisk
-    g.F.FlatFile c.args.terms c.args.listing.now c.args.client.now c.args.work.now result client work c.skips_of.result) (sym same) (λ w d f.
+    g.F.FlatFile c.args.terms c.args.listing.now c.args.client.now c.args.work.now result client work c.skips_of.result) (sym same)
+    (λ w d f.
     let done = does w d f in
     let ready = c.in_ok-ready.ensures.readies done.1 done.2 in
     let before = c.prepare.new.work in
