@@ -440,7 +440,7 @@ withdrawn _ _ _ is = record {
 }
 
 module _ (world : World Mail) (state : State) (sound : IsSound world) (front : IsFront world.start state (selected_of world)) where
-  open world use {start as mail, max_size, all}
+  open world use {start as mail, size_limit, all}
 
   mail_is : AreLegal all
   mail_is = are_legal _ _ sound.all
@@ -453,8 +453,8 @@ module _ (world : World Mail) (state : State) (sound : IsSound world) (front : I
 
   texts_done : (id : List ℕ) → has_id (message_ids front.done) id ≡ true
       → (text : List ℕ) × ComesFor mail id text × (texts_of front.done id ≡ text ∷ [])
-  texts_done = one_text (ComesFor mail) front.done (done_distinct max_size front.done front.rest mail_is front.prefix)
-      (all_front _ front.done _ (rw front.prefix at (all_filter _ (is_selected max_size) _ sound.all.each)))
+  texts_done = one_text (ComesFor mail) front.done (done_distinct size_limit front.done front.rest mail_is front.prefix)
+      (all_front _ front.done _ (rw front.prefix at (all_filter _ (is_selected size_limit) _ sound.all.each)))
 
   holds_done : Invariant mail state → (id : List ℕ) → is_legal_id id ≡ true
       → (copies (files state.account) (stem_of mail.account id) ≡ texts_of front.done id)
@@ -504,7 +504,7 @@ order_shows_next : (Comes : List ℕ → List ℕ → Type 0) (limit : ℕ) (all
     (maildrop : List Message) → IsMaildrop Comes all → selected limit all ≡ done ++ rest
     → IsInOrder limit all (λ id. has_id (message_ids done) id ≡ true) settings maildrop → ShowsNext settings maildrop done rest
 order_shows_next Comes limit all done rest _ _ are prefix order =
-    rw (order.max_size, order.shown) (next_here _ _ _ _ _ (are_legal _ _ are) prefix order.done)
+    rw (order.sizes, order.shown) (next_here _ _ _ _ _ (are_legal _ _ are) prefix order.done)
 
 -- ---- what is taken away
 
@@ -535,13 +535,13 @@ taken_stays_away laws _ _ _ mail state _ call id account drop is new legal recor
 withdrawn_leave_prefixes : (world : World Base) (done : List Message) (account : MboxMail) (ids : List (List ℕ))
     → IsMaildrop (IsTextOf world.start) world.all → (is : HoldsAMboxPrefix world done account)
     → AllByRecursion (IsUnbegun account) ids → IsMaildrop (IsTextOf world.start) (without ids world.all)
-    × IsMboxFront world.start is.holds (selected world.max_size (without ids world.all))
+    × IsMboxFront world.start is.holds (selected world.size_limit (without ids world.all))
 withdrawn_leave_prefixes world done account ids sound is unbegun = (
   withdrawn (IsTextOf base) ids all sound,
   record {
     first = is.front.first;
     rest = without ids is.front.rest;
-    prefix = prefix_left max_size all (is.front.first ++ done) is.front.rest ids is.front.prefix
+    prefix = prefix_left size_limit all (is.front.first ++ done) is.front.rest ids is.front.prefix
         (λ id there gone. both_ways (is_delivered account.rows id) (all_ids_at _ _ unbegun gone).0 (recorded_is is id ∙ there));
     had = is.front.had;
     next = λ o e.
@@ -552,7 +552,7 @@ withdrawn_leave_prefixes world done account ids sound is unbegun = (
   },
 )
   where
-    open world use {start as base, max_size, all}
+    open world use {start as base, size_limit, all}
 
 pub mbox_fronts_begin : MboxFrontsBegin
 mbox_fronts_begin world account first rest closed prefix recorded = record {
@@ -578,7 +578,7 @@ entries_mean_texts laws base done account first holds closed stands =
 in_order : {limit : ℕ} {all : List Message} {P Q : List ℕ → Type 0} {settings : Settings} {maildrop : List Message}
     → ((id : List ℕ) → P id → Q id) → IsInOrder limit all P settings maildrop → IsInOrder limit all Q settings maildrop
 in_order f order = record {
-  max_size = order.max_size;
+  sizes = order.sizes;
   come = order.come;
   gone = order.gone;
   done = all_map _ order.done f;
@@ -604,7 +604,7 @@ headline link disk file promised = all_hold
           let legal = legal_selected (world_without withdrawn world) sound' in
           let shown : (f : IsFront world.start state (selected_of (world_without withdrawn world)))
           → ShowsNext call.settings call.maildrop f.done f.rest =
-          λ f. order_shows_next (ComesFor world.start) world.max_size (world_without withdrawn world).all f.done f.rest
+          λ f. order_shows_next (ComesFor world.start) world.size_limit (world_without withdrawn world).all f.done f.rest
           call.settings call.maildrop sound'.all f.prefix (in_order (λ id (l, safe). f.is_done id l ∙ safe) order) in (
             promises,
             (
@@ -654,7 +654,7 @@ mbox_headline laws link disk file sessions = all_hold
           let (sound', front) = withdrawn_leave_prefixes world done account withdrawn sound is unbegun in
           let (sent, after, sent_is, shows', one) = mbox_calls_append laws link disk file sessions world.start done
           account devices call shows is.holds only_new called in
-          let shown = order_shows_next (IsTextOf world.start) world.max_size (world_without withdrawn world).all
+          let shown = order_shows_next (IsTextOf world.start) world.size_limit (world_without withdrawn world).all
           (front.first ++ done) front.rest call.settings call.maildrop sound' front.prefix
           (in_order (λ id entered. ids_both front.first done id
           ∙ ap (λ (b : Bool). b || has_id (message_ids done) id) (sym (front.had id)) ∙ entered) order) in (

@@ -11,7 +11,10 @@ use Rattle.std.{
 use Rattle.pop3_wire.specs.{World.{Message, maildrop_of}, declared.command.Command.Command}
 use Rattle.mail_terms.specs.{Distinct.AreDistinct, Listing.{Item, has_item}, UniqueId.{has_id, is_legal_id}}
 use Rattle.fetch_record.specs.Record.{Row, is_delivered}
-use Rattle.fetch_rules.{specs.Wanted.{WantedAreFirst, at_most, fitting, own_skip, wanted}, proofs.PlanLemmas.own_passes}
+use Rattle.fetch_rules.{
+  specs.Wanted.{WantedAreFirst, allows_size, at_most, fitting, is_within, own_skip, wanted},
+  proofs.PlanLemmas.own_passes,
+}
 use Rattle.rc_file.specs.declared.settings.Settings.{Settings}
 use Rattle.mail_store.specs.{Maildir.{File, Maildir}, FileName.{is_held, mail_file}}
 use Rattle.fetch_runs.{
@@ -305,13 +308,13 @@ module _ {settings : Settings} {is_odd : List ℕ → Bool} {rows : List Row} {d
 -- ---- what a session stores is the next
 
 -- what is selected and isn't done
-abbrev pub next_in : ℕ → List Message → List Message → List Message
-next_in limit done ms = filter (λ (m : Message). is_selected limit m && not (has_id (message_ids done) m.uid)) ms
+abbrev pub next_in : (ℕ → Bool) → List Message → List Message → List Message
+next_in allows done ms = filter (λ (m : Message). allows m.size && not (has_id (message_ids done) m.uid)) ms
 
 -- of a maildrop that keeps its order it is the first of what is left
 pub next_here : (limit : ℕ) {all : List Message} (come : ℕ) (gone : List (List ℕ)) (done rest : List Message)
     → AreLegal all → selected limit all ≡ done ++ rest → AllByRecursion (λ id. has_id (message_ids done) id ≡ true) gone
-    → BeginsWith (next_in limit done (maildrop_of all come gone)) rest
+    → BeginsWith (next_in (is_within limit) done (maildrop_of all come gone)) rest
 next_here limit {all} come gone done rest mail prefix all_gone =
     simp filter-filter (bridge fit
     (λ (m : Message). not (has_id gone m.uid) && (fit m && not (has_id (message_ids done) m.uid))) done (take come all)
@@ -325,7 +328,7 @@ next_here limit {all} come gone done rest mail prefix all_gone =
 module _ {settings : Settings} {is_odd : List ℕ → Bool} {rows : List Row} {drop' : List Message} {effect : Effect}
     (is : Fetch settings is_odd rows drop' effect) (clear : (id : List ℕ) → is_odd id ≡ false) (done rest : List Message)
     (known : AllByRecursion (λ (m : Message). is_delivered rows m.uid ≡ true
-    → has_id (message_ids done) m.uid ≡ true) drop') (next : BeginsWith (next_in settings.max_size done drop') rest)
+    → has_id (message_ids done) m.uid ≡ true) drop') (next : BeginsWith (next_in (allows_size settings) done drop') rest)
   where
     abbrev undone : Message → Bool
     undone m = not (has_id (message_ids done) m.uid)
@@ -340,8 +343,9 @@ module _ {settings : Settings} {is_odd : List ℕ → Bool} {rows : List Row} {d
     abbrev behind : ℕ → List Message
     behind n = drop n (wants settings is_odd rows drop') ++ drop (fitting settings (map message_size some')) some'
 
-    undone_offered : (ms : List Message) → AllByRecursion (λ (m : Message). is_delivered rows m.uid ≡ true
-        → has_id (message_ids done) m.uid ≡ true) ms → next_in settings.max_size done ms ≡ filter undone (offered settings is_odd rows ms)
+    undone_offered : (ms : List Message)
+        → AllByRecursion (λ (m : Message). is_delivered rows m.uid ≡ true → has_id (message_ids done) m.uid ≡ true) ms
+        → next_in (allows_size settings) done ms ≡ filter undone (offered settings is_odd rows ms)
     undone_offered [] h = refl
     undone_offered (m ∷ ms) h = grind (
       arith,

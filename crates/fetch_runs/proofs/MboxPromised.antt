@@ -1,7 +1,7 @@
 -- With an mboxrd file, each session that reads only what is new appends entries and keeps its promises.
 use Rattle.std.{
   proofs.Common.{subst, not, length, None, Option, Some, map, ◌⊎◌, slice_get, zero, ◌≡◌, inl, inr, ℕ, List, [], ◌∷◌, ◌++◌, true, false, ap},
-  proofs.Common.{refl, sym, ◌∙◌, suc, ◌||◌, take, arith, append_assoc},
+  proofs.Common.{Bool, refl, sym, ◌∙◌, suc, ◌||◌, take, arith, append_assoc},
   proofs.lemmas.{Bool.{both_ways, false_from_ne_true, or_left, or_right, or_parts}, Grind.flat_map-append, Option.same_Some},
   proofs.lemmas.List.{append-nil, append_cancel_left, map-append, take_all, Folds.flat_map-map},
   proofs.Math.{Bool.{or-false, or_assoc}, Logic.{⊎_elim, ⊎_map}},
@@ -24,7 +24,7 @@ use Rattle.fetch_runs.{
 }
 use Rattle.fetch_record.specs.{Record.{Intent, marked, is_delivered, Row, has_row, marked_all}, RecordMeaning.FileStandsFor}
 use Rattle.pop3_wire.specs.World.{Message}
-use Rattle.fetch_rules.specs.Wanted.{none_odd}
+use Rattle.fetch_rules.specs.Wanted.{allows_size, none_odd}
 use Rattle.session_parts.specs.{Target.none_held, declared.report.Outcome.TheVariants.Ended}
 
 -- ---- distinct lists of messages
@@ -88,10 +88,10 @@ without_one n (x ∷ xs) later d (more, e) =
     subst (λ (k : Message). BeginsWith (filter (λ (m : Message). not (bytes_eq m.uid k.uid)) (x ∷ xs)) later) (sym same)
     (more, rw bytes_self (tail ∙ ap (λ l. l ++ more) (sym (filter_all _ xs apart))))
 
-next_less : (limit : ℕ) (done : List Message) (n : Message) (ms : List Message)
-    → next_in limit (done ++ n ∷ []) ms ≡ filter (λ (m : Message). not (bytes_eq m.uid n.uid)) (next_in limit done ms)
+next_less : (allows : ℕ → Bool) (done : List Message) (n : Message) (ms : List Message)
+    → next_in allows (done ++ n ∷ []) ms ≡ filter (λ (m : Message). not (bytes_eq m.uid n.uid)) (next_in allows done ms)
 next_less _ _ n [] = refl
-next_less limit done n (m ∷ ms) = grind (arith, ids_both, next_less limit done n ms)
+next_less allows done n (m ∷ ms) = grind (arith, ids_both, next_less allows done n ms)
 
 -- what holds of what stands on the right
 of_right : {A B : Type 0} (P : B → Type 0) {both : A ⊎ B} {a b : B} → both ≡ inr a → P a → both ≡ inr b → P b
@@ -176,16 +176,16 @@ module _ (base : Base) where
   next_is {bytes} {account} o more first = λ p same. let is : o ≡ p = cc in (more, first ∙ ap (λ q. q.next ∷ more) is)
 
   -- after it was settled the next are these
-  ahead : (limit : ℕ) (done ms : List Message) → Distinct (message_ids ms)
+  ahead : (allows : ℕ → Bool) (done ms : List Message) → Distinct (message_ids ms)
       → (bytes : List ℕ) (account : MboxMail) (stands : Stands base bytes account) (rest more : List Message)
-      → IsNext bytes account rest stands → IsMore bytes account stands more → BeginsWith (next_in limit done ms) rest
-      → (later : List Message) × (rest ≡ more ++ later) × BeginsWith (next_in limit (done ++ more) ms) later
+      → IsNext bytes account rest stands → IsMore bytes account stands more → BeginsWith (next_in allows done ms) rest
+      → (later : List Message) × (rest ≡ more ++ later) × BeginsWith (next_in allows (done ++ more) ms) later
   ahead _ _ _ d _ account (inl _) rest _ _ is begins = (rest, rw is refl, rw (is, append-nil) begins)
   ahead _ _ _ d _ account (inr o) rest _ _ (inl is) begins = (rest, rw is refl, rw (is, append-nil) begins)
-  ahead limit done ms d _ account (inr o) _ _ next (inr is) begins = let (later, first) = next o refl in (
+  ahead allows done ms d _ account (inr o) _ _ next (inr is) begins = let (later, first) = next o refl in (
     later,
     rw is first,
-    rw (is, next_less limit done o.next ms) (without_one _ _ _ (distinct_filter _ ms d) (rw first at begins)),
+    rw (is, next_less allows done o.next ms) (without_one _ _ _ (distinct_filter _ ms d) (rw first at begins)),
   )
 
   -- a closed account whose file is these bytes, with some more entries perhaps
@@ -443,9 +443,9 @@ module _ (base : Base) where
             × IsNext (bytes_of done_now) now rest stands
 
         later : (rest : List Message) × (front.rest ≡ origin.0 ++ rest)
-            × BeginsWith (next_in v.settings.max_size (front.first ++ was) v.maildrop) rest
+            × BeginsWith (next_in (allows_size v.settings) (front.first ++ was) v.maildrop) rest
         later =
-            let l = ahead _ _ _ (distinct_is _ is.distinct)
+            let l = ahead (allows_size v.settings) _ _ (distinct_is _ is.distinct)
             (bytes_of done) before kept.stands front.rest origin.0 front.next origin.3 next in
             (l.0, l.1, rw append_assoc at l.2)
 

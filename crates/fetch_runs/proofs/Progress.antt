@@ -1,16 +1,16 @@
 -- Counting: over a maildrop that stays, but for messages that are done, each uncut call that reads only what is new records
 -- as many more messages as its limit says, or all.
 use Rattle.std.{
-  proofs.Common.{◌≡◌, ◌⊎◌, inl, inr, ◌≤◌, ◌+◌, ◌*◌, ◌==◌, ℕ, zero, suc, List, [], ◌∷◌, ◌++◌, Bool, true, false, not, ◌&&◌, length},
-  proofs.Common.{take, map, refl, sym, ap, arith, ◌∙◌, cond, Option},
-  proofs.lemmas.{Bool.{and_parts, both_ways, cases_Bool, not-false, not-true, or_left}, List.{take_all, length-map}, Nat.mul-le},
+  proofs.Common.{◌≡◌, ◌⊎◌, inl, inr, ◌≤◌, ◌+◌, ◌*◌, ℕ, zero, suc, List, [], ◌∷◌, ◌++◌, Bool, true, false, not, ◌&&◌, length},
+  proofs.Common.{take, refl, sym, subst, ap, arith, ◌∙◌, cond, Option},
+  proofs.lemmas.{Bool.{and_parts, both_ways, cases_Bool, not-false, not-true, or_left}, List.Filters.length-filter_both, Nat.mul-le},
   proofs.Math.Logic.⊎_elim,
   specs.List.{filter, AllByRecursion},
 }
 use Rattle.pop3_wire.specs.{declared.wire.Wire.Ghosts as WireGhosts, World.Message}
 use Rattle.mail_terms.specs.UniqueId.{has_id}
 use Rattle.rc_file.specs.declared.settings.Settings.{Settings}
-use Rattle.fetch_rules.specs.Wanted.{at_most, fitting}
+use Rattle.fetch_rules.{specs.{Limits.LimitsSizes, Wanted.at_most}, proofs.PlanLemmas.{at_most_firsts, sizes_within}}
 use Rattle.fetch_record.specs.{Record.{Intent, Row, is_delivered}, RecordMeaning.FileStandsFor}
 use Rattle.mail_store.specs.{
   Devices.stored_in,
@@ -26,7 +26,7 @@ use Rattle.fetch_runs.{
   specs.Promises.{Call, FetchesWanted, may_fetch},
   specs.Progress.{Aim, CallsGetFar, CountsOn, HasCome, IsFar, IsTowards, MboxCallsGetFar, aimed, count_done, share, uncut_after},
   proofs.Core.message_size,
-  proofs.Lists.{all_back, all_filter, all_front, all_ids_at, all_map, all_take, filter-filter, filter-swap, same_kept_rows},
+  proofs.Lists.{all_back, all_filter, all_front, all_ids_at, all_map, filter-filter, filter-swap, same_kept_rows},
 }
 
 -- ---- counting
@@ -96,12 +96,12 @@ counted {X} known after k (x ∷ xs) old new = ⊎_elim
 -- ---- one call
 
 -- what it may fetch is what is aimed at and isn't known
-offered_are : (limit : ℕ) (settings : Settings) (is_odd known : List ℕ → Bool) → settings.max_size ≡ limit
+offered_are : (limit : ℕ) (settings : Settings) (is_odd known : List ℕ → Bool) → LimitsSizes settings limit
     → settings.read_all ≡ false → ((id : List ℕ) → is_odd id ≡ false) → (ms : List Message)
     → filter (may_fetch settings is_odd known) ms ≡ filter (λ (m : Message). is_selected limit m && not (known m.uid)) ms
-offered_are limit settings is_odd known size only_new clear [] = refl
-offered_are limit settings is_odd known size only_new clear (m ∷ ms) =
-    rw (same, offered_are limit settings is_odd known size only_new clear ms) refl
+offered_are limit settings is_odd known sizes only_new clear [] = refl
+offered_are limit settings is_odd known sizes only_new clear (m ∷ ms) =
+    rw (same, offered_are limit settings is_odd known sizes only_new clear ms) refl
   where
     swapped : (known within : Bool) → (not known && within) ≡ (within && not known)
     swapped true true = refl
@@ -110,7 +110,7 @@ offered_are limit settings is_odd known size only_new clear (m ∷ ms) =
     swapped false false = refl
 
     same : may_fetch settings is_odd known m ≡ (is_selected limit m && not (known m.uid))
-    same = rw (only_new, clear m.uid, size) (swapped (known m.uid) (is_selected limit m))
+    same = rw (only_new, clear m.uid, sizes_within settings limit sizes m.size) (swapped (known m.uid) (is_selected limit m))
 
 -- of messages that are known none is among those that aren't
 still_unknown : (p q : Message → Bool) → ((m : Message) → p m ≡ true → q m ≡ true) → (ms : List Message)
@@ -156,37 +156,34 @@ module _ {W S F : Type 0} (aim : Aim) (call : Call W S F) (is_odd is_done known 
   was_done m outside = all_ids_at (λ id. is_done id ≡ true) is.gone is.done (not-false (has_id is.gone m.uid) outside)
 
   abbrev is_offered : Message → Bool
-  is_offered m = is_selected aim.max_size m && not (known m.uid)
+  is_offered m = is_selected aim.size_limit m && not (known m.uid)
 
   offered_there : (m : Message) → is_offered m ≡ true → is_there m ≡ true
   offered_there m is_new = ⊎_elim (λ there. there) (λ outside. absurd (both_ways (known m.uid)
       (not-true (known m.uid) (and_parts _ _ is_new).1) (knows m.uid (was_done m outside)))) (cases_Bool (is_there m))
 
   offered : filter (may_fetch call.settings is_odd known) call.maildrop ≡ unknown
-  offered = offered_are aim.max_size call.settings is_odd known is.max_size is.only_new clear call.maildrop
+  offered = offered_are aim.size_limit call.settings is_odd known is.limits.sizes is.only_new clear call.maildrop
       ∙ rw is.shown (still_unknown is_offered is_there offered_there aim.maildrop)
-      ∙ sym (filter-filter (λ (m : Message). not (known m.uid)) (is_selected aim.max_size) aim.maildrop)
+      ∙ sym (filter-filter (λ (m : Message). not (known m.uid)) (is_selected aim.size_limit) aim.maildrop)
 
   both : AllByRecursion IsDone (filter is_known call.maildrop ++ at_most call.settings message_size unknown)
   both = all_map _ (rw offered at (wanted uncut).1) recorded
 
   old : AllByRecursion IsDone (filter is_known (aimed aim))
-  old = rw (filter-swap is_known (is_selected aim.max_size) aim.maildrop)
-      (all_filter IsDone (is_selected aim.max_size) (filter is_known aim.maildrop)
+  old = rw (filter-swap is_known (is_selected aim.size_limit) aim.maildrop)
+      (all_filter IsDone (is_selected aim.size_limit) (filter is_known aim.maildrop)
       (back_in IsDone is_known is_there aim.maildrop (λ m outside. stays m.uid (was_done m outside))
       (rw is.shown at (all_front IsDone (filter is_known call.maildrop) _ both))))
 
-  got : AllByRecursion IsDone (take (fitting call.settings (map message_size unknown)) unknown)
-  got = all_back IsDone (filter is_known call.maildrop) _ both
-
-  new : (all : Bool) → (aim.max_count == 0) ≡ all → AllByRecursion IsDone (take (share aim) unknown)
-  new true is_all = all_take IsDone (share aim) unknown
-      (rw (take_all (length (map message_size unknown)) unknown (omega (arith, length-map unknown message_size)))
-      at (rw (is.max_count, is_all) at got))
-  new false is_all = rw is_all (rw (is.max_count, is_all) at got)
+  new : AllByRecursion IsDone (take (share aim) unknown)
+  new =
+      let all = length-filter_both (λ (m : Message). known m.uid) (λ m. not (known m.uid)) (λ m. refl) (aimed aim) in
+      subst (AllByRecursion IsDone) (at_most_firsts is.limits message_size unknown (length (aimed aim)) (omega (arith, all)))
+      (all_back IsDone (filter is_known call.maildrop) _ both)
 
   farther : (count_done aim known + share aim ≤ count_done aim after) ⊎ (length (aimed aim) ≤ count_done aim after)
-  farther = counted is_known (λ (m : Message). after m.uid) (share aim) (aimed aim) old (new (aim.max_count == 0) refl)
+  farther = counted is_known (λ (m : Message). after m.uid) (share aim) (aimed aim) old new
 
 module _ (aim : Aim) where
   once_more : (calls : ℕ) → (calls + 1) * share aim ≡ calls * share aim + share aim

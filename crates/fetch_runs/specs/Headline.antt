@@ -8,6 +8,7 @@ use Rattle.pop3_wire.specs.{World.{Message, maildrop_of}, declared.wire.Wire.Gho
 use Rattle.mail_terms.specs.UniqueId.{is_legal_id, has_id}
 use Rattle.rc_file.specs.declared.settings.Settings.{Settings}
 use Rattle.fetch_record.specs.Record.{Intent, is_delivered}
+use Rattle.fetch_rules.specs.Limits.{LimitsSizes}
 use Rattle.mail_store.specs.{
   FileName.{IsAccountText, is_held, stem_of},
   Mboxrd.MboxFile,
@@ -30,7 +31,7 @@ use Rattle.fetch_runs.specs.{
 -- a session's limit on sizes is this one, and its maildrop is a beginning of all mail, without messages of such ids
 pub record IsInOrder (limit : ℕ) (all : List Message) (IsDone : List ℕ → Type 0) (settings : Settings)
     (maildrop : List Message) : Type 0 where
-  pub max_size : settings.max_size ≡ limit
+  pub sizes : LimitsSizes settings limit
   pub come : ℕ
   pub gone : List (List ℕ)
   pub done : AllByRecursion IsDone gone
@@ -40,7 +41,7 @@ pub record IsInOrder (limit : ℕ) (all : List Message) (IsDone : List ℕ → T
 -- arrival, without what was withdrawn
 pub record World (Start : Type 0) : Type 0 where
   pub start : Start
-  pub max_size : ℕ
+  pub size_limit : ℕ
   pub all : List Message
 
 -- all mail goes on without the messages that are withdrawn
@@ -48,7 +49,7 @@ abbrev pub world_without : {Start : Type 0} → List (List ℕ) → World Start 
 world_without ids world = record world { all = without ids world.all }
 
 abbrev pub selected_of : {Start : Type 0} → World Start → List Message
-selected_of world = selected world.max_size world.all
+selected_of world = selected world.size_limit world.all
 
 -- ---- with a Maildir
 
@@ -101,7 +102,7 @@ HoldPrefixes link disk file world state devices (Called call ∷ later) = Shows 
     × HoldsAPrefix world state × ((withdrawn : List (List ℕ))
     → AllByRecursion (λ id. is_safe world.start state id ≡ false) withdrawn
     → let next = world_without withdrawn world in
-    IsInOrder next.max_size next.all (IsSafe world.start state) call.settings call.maildrop
+    IsInOrder next.size_limit next.all (IsSafe world.start state) call.settings call.maildrop
     → digits_of call.settings ≡ world.start.account
     → IsCall link disk file InMaildir disk.sound (ComesFor world.start) devices call
     → (disk.maildir call.after.store).odd ≡ [] → (is : IsPromised link disk file world.start state devices call)
@@ -166,7 +167,7 @@ HoldMboxPrefixes link disk file world done account devices [] =
 HoldMboxPrefixes link disk file world done account devices (Called call ∷ later) = ShowsMbox file devices account
     × (is : HoldsAMboxPrefix world done account) × ((withdrawn : List (List ℕ))
     → AllByRecursion (IsUnbegun account) withdrawn → let next = world_without withdrawn world in
-    IsInOrder next.max_size next.all (λ id. is_entered world.start done id ≡ true) call.settings call.maildrop
+    IsInOrder next.size_limit next.all (λ id. is_entered world.start done id ≡ true) call.settings call.maildrop
     → call.settings.read_all ≡ false → IsCall link disk file InMbox file.sound (IsTextOf world.start) devices call
     → (sent : List ℕ) × (after : MboxMail) × ((link.history call.wire').sent ≡ (link.history call.wire).sent ++ sent)
     × ShowsMbox file call.after after × (appends : AppendsMail world.start is.holds call sent after)

@@ -2,11 +2,12 @@
 -- records as many more messages as its limit says, until all are recorded. Each of these is held or was taken away, or
 -- has its entry.
 use Rattle.std.specs.{
-  Prelude.{◌≡◌, ◌≢◌, ◌⊎◌, ◌≤◌, ◌+◌, ◌*◌, ◌==◌, ℕ, Bool, true, false, List, [], ◌∷◌, ◌++◌, length, if◌then◌else◌},
+  Prelude.{◌≡◌, ◌≢◌, ◌⊎◌, ◌≤◌, ◌+◌, ◌*◌, ℕ, Bool, true, false, List, [], ◌∷◌, ◌++◌, length},
   List.{AllByRecursion, filter},
 }
 use Rattle.pop3_wire.specs.{World.Message, declared.wire.Wire.Ghosts as WireGhosts}
 use Rattle.fetch_record.specs.Record.{Row, is_delivered}
+use Rattle.fetch_rules.specs.{Limits.SetsLimits, Wanted.up_to}
 use Rattle.mail_store.specs.{
   Durable.Disk,
   declared.{file.flat_file.FlatFile.Ghosts as FileGhosts, maildir.disk.MaildirDisk.Ghosts as DiskGhosts},
@@ -31,12 +32,12 @@ use Rattle.fetch_runs.specs.{
 -- what stays from call to call: the maildrop, the limit on sizes, and how many messages a call may fetch; 0 is no limit
 pub record Aim : Type 0 where
   pub maildrop : List Message
-  pub max_size : ℕ
-  pub max_count : ℕ
+  pub size_limit : ℕ
+  pub count_limit : ℕ
 
 -- the messages within the limit on sizes
 abbrev pub aimed : Aim → List Message
-aimed aim = selected aim.max_size aim.maildrop
+aimed aim = selected aim.size_limit aim.maildrop
 
 -- how many of these have ids of this kind
 abbrev pub count_done : Aim → (List ℕ → Bool) → ℕ
@@ -44,20 +45,19 @@ count_done aim is_done = length (filter (λ (m : Message). is_done m.uid) (aimed
 
 -- how many a call may fetch
 abbrev pub share : Aim → ℕ
-share aim = if aim.max_count == 0 then length (aimed aim) else aim.max_count
+share aim = up_to aim.count_limit (length (aimed aim))
 
 -- all are done, or at least as many as so many calls may fetch
 abbrev pub IsFar : Aim → ℕ → (List ℕ → Bool) → Type 0
 IsFar aim calls is_done = (calls * share aim ≤ count_done aim is_done) ⊎ (length (aimed aim) ≤ count_done aim is_done)
 
--- the call is over this maildrop, from which messages may be gone whose ids are of this kind, has these limits, and
--- reads only what is new
+-- the call is over this maildrop, from which messages may be gone whose ids are of this kind, has these limits and
+-- no others, and reads only what is new
 pub record IsTowards {W S F : Type 0} (aim : Aim) (is_done : List ℕ → Bool) (call : Call W S F) : Type 0 where
   pub gone : List (List ℕ)
   pub done : AllByRecursion (λ id. is_done id ≡ true) gone
   pub shown : call.maildrop ≡ without gone aim.maildrop
-  pub max_size : call.settings.max_size ≡ aim.max_size
-  pub max_count : call.settings.max_count ≡ aim.max_count
+  pub limits : SetsLimits call.settings aim.size_limit aim.count_limit
   pub only_new : call.settings.read_all ≡ false
 
 -- one more call is uncut, if this one is

@@ -10,7 +10,7 @@ use Rattle.pop3_wire.specs.{World.Message, declared.command.Command.{Command, Th
 use Rattle.mail_terms.specs.{Distinct.AreDistinct, Text.IsWhole, UniqueId.{is_legal_id, has_id}}
 use Rattle.rc_file.specs.declared.settings.Settings.{Settings}
 use Rattle.fetch_record.specs.Record.{is_delivered}
-use Rattle.fetch_rules.specs.Wanted.{at_most, is_within}
+use Rattle.fetch_rules.specs.Wanted.{allows_size, at_most}
 use Rattle.mail_store.specs.{
   FileName.{is_held, name_of, names_id, stem_of},
   Maildir.file,
@@ -105,7 +105,7 @@ DeletesOneOf maildrop Is _ = Unit {0}
 -- whether a session that met such odd names and knows such ids may fetch a message
 abbrev pub may_fetch : Settings → (odd known : List ℕ → Bool) → Message → Bool
 may_fetch settings is_odd is_known m = not (not settings.read_all && is_known m.uid)
-    && (not (is_odd m.uid) && is_within settings.max_size m.size)
+    && (not (is_odd m.uid) && allows_size settings m.size)
 
 -- an uncut session that met such odd names and knows messages of such ids retrieved what it wants of the maildrop: of
 -- those that it may fetch as many as its limit says. These are of this kind, and so are those that it knows
@@ -117,7 +117,7 @@ FetchesWanted call is_odd is_known Is = call.report.outcome ≡ Ended → let wa
 -- what a maildrop has within the session's limit and isn't done is the first of these
 abbrev pub ShowsNext : Settings → List Message → List Message → List Message → Type 0
 ShowsNext settings maildrop done rest = (more : List Message) × (rest ≡ filter (λ (m : Message).
-    is_within settings.max_size m.size && not (has_id (message_ids done) m.uid)) maildrop ++ more)
+    allows_size settings m.size && not (has_id (message_ids done) m.uid)) maildrop ++ more)
 
 -- those that are held or were taken away are exactly the first of these messages
 pub record IsFront (mail : Mail) (state : State) (all : List Message) : Type 0 where

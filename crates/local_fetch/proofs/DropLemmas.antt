@@ -19,6 +19,7 @@ use Rattle.pop3_server.{
   proofs.HonestLemmas.{answers_honestly, lines_cut, did_sound},
 }
 use Rattle.rc_file.specs.declared.settings.Settings.{Settings}
+use Rattle.fetch_rules.specs.Limits.{SetsNoLimits}
 use Rattle.mail_store.specs.FileName.{is_odd}
 use Rattle.session_parts.specs.{Session.AccountFiles, declared.report.{Outcome.TheVariants.Ended, Report.Report}}
 use Rattle.fetch_runs.{
@@ -76,7 +77,7 @@ module _ {M : Type 0} (sound : M → Type 0) (mail : M → DropMail) where
       (distinct : AreDistinct (message_ids (there (mail server.drop).slots)))
       {settings : Settings} {account : List ℕ} {now : ℕ} {before : AccountFiles} {report : Report}
       (said : SpeaksByPlan settings account now before report wire.link.sent wire.link.got) (is_ended : report.outcome ≡ Ended)
-      (delete : settings.delete ≡ true) (size : settings.max_size ≡ 0) (count : settings.max_count ≡ 0)
+      (delete : settings.delete ≡ true) (unlimited : SetsNoLimits settings)
       (clear : before.maildir.odd ≡ []) where
     abbrev ms : List Message
     ms = there (mail server.drop).slots
@@ -146,7 +147,7 @@ module _ {M : Type 0} (sound : M → Type 0) (mail : M → DropMail) where
         (serves.same.unanswered.messages s).0 messages in
         let items : said.items ≡ listing_of ms =
         lists_maildrop laws talk ms all.0 heard tail all.1 (append-nil heard ∙ answers) in
-        let each = all_marked settings (is_odd account before.maildir) said.rows said.items now delete size count (λ id. rw clear refl)
+        let each = all_marked settings (is_odd account before.maildir) said.rows said.items now delete unlimited (λ id. rw clear refl)
         (rw (items, map-map) distinct) in
         sym (ap (λ (marks : List Bool). marks_after marks front) (flags false items))
         ∙ each ∙ flags true items

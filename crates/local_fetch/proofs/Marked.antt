@@ -1,10 +1,10 @@
 -- An ended session with `delete`, without limits and over a Maildir in which nothing is odd, has marked all messages of an
 -- honest server before its QUIT.
 use Rattle.std.{
-  proofs.Common.{◌≡◌, ◌∙◌, ◌+◌, ◌-◌, ◌&&◌, ℕ, Bool, true, false, not, List, [], ◌∷◌, ◌++◌, None, Some, ap, append-nil, append_assoc, arith},
-  proofs.Common.{get_or, if◌then◌else◌, length, length-append, map, refl, slice_set, sym},
+  proofs.Common.{◌≡◌, ◌∙◌, ◌+◌, ◌-◌, ℕ, Bool, true, false, List, [], ◌∷◌, ◌++◌, Some, ap, append-nil, append_assoc, arith},
+  proofs.Common.{length, length-append, map, refl, slice_set, sym},
   proofs.lemmas.List.{Elements.recursion_from_All, set_at},
-  specs.{List.{AllByRecursion, AllZip, enumerate_from, flat_map}, Option.option_or, String.string_bytes},
+  specs.{List.{AllByRecursion, AllZip, enumerate_from, flat_map}, String.string_bytes},
 }
 use Rattle.pop3_wire.specs.{
   declared.command.Command.{Command, TheVariants.{Stat, UidlAll, ListAll, Retr, Dele, Rset, Top, Quit}},
@@ -14,13 +14,12 @@ use Rattle.pop3_wire.specs.{
   World.Message,
 }
 use Rattle.pop3_client.specs.Turns.{IsGood, greeting}
-use Rattle.mail_terms.specs.Listing.{HasDistinctIds, Item, is_first, is_last, numbered}
+use Rattle.mail_terms.specs.Listing.{HasDistinctIds, Item, numbered}
 use Rattle.rc_file.specs.declared.settings.Settings.{Settings}
-use Rattle.fetch_record.specs.Record.{Row, is_delivered}
+use Rattle.fetch_record.specs.Record.{Row}
 use Rattle.fetch_rules.{
-  specs.{Plan.{fetches, may_be_deleted, planned, step_of}, declared.plans.Step.Step},
-  specs.declared.plans.Skip.TheVariants.{Delivered, Obstructed, PastLimit, SameId, TooLarge},
-  proofs.PlanLemmas.{are_first, are_last},
+  specs.{Limits.SetsNoLimits, Plan.{fetches, planned, step_of}, declared.plans.Step.Step},
+  proofs.PlanLemmas.all_deleted,
 }
 use Rattle.mail_store.specs.FileName.{is_odd}
 use Rattle.session_parts.specs.{Session.AccountFiles, declared.report.{Outcome.TheVariants.Ended, Report.Report}}
@@ -111,27 +110,12 @@ steps_mark step same j (item ∷ items) before at all =
     ∙ steps_mark step same (j + 1) items (before ++ true ∷ []) (omega (arith, at, length-append before (true ∷ []))) all.1
     ∙ append_assoc before (true ∷ []) (map (λ _. true) items)
 
-module _ (settings : Settings) (is_odd : List ℕ → Bool) (rows : List Row) (items : List Item) (now : ℕ)
-    (delete : settings.delete ≡ true) (size : settings.max_size ≡ 0) (count : settings.max_count ≡ 0)
-    (clear : (id : List ℕ) → is_odd id ≡ false) where
-  known_or_not : (all known : Bool) → (may_be_deleted known (option_or (if not all && known then Some Delivered
-      else if false then Some Obstructed else if not true then Some TooLarge else None)
-      (if false then Some PastLimit else if true then None else Some SameId)) && (true && true)) ≡ true
-  known_or_not true true = refl
-  known_or_not true false = refl
-  known_or_not false true = refl
-  known_or_not false false = refl
-
-  deletes : (message : ℕ × Item) → is_first items message ≡ true → is_last items message ≡ true
-      → (step_of settings is_odd rows items now message).delete ≡ true
-  deletes message first last =
-      rw (delete, size, count, first, last, clear message.1.uid) (known_or_not settings.read_all (is_delivered rows message.1.uid))
-
-  pub all_marked : HasDistinctIds items → marks_after (map (λ _. false) items) (flat_map step_commands
-      (planned settings is_odd rows items now)) ≡ map (λ _. true) items
-  all_marked distinct = steps_mark (step_of settings is_odd rows items now) (λ message. refl) 1 items [] refl
-      (recursion_from_All _ (numbered items) (λ k d inside. deletes (get_or (numbered items) k d)
-      (are_first items distinct k d inside) (are_last items distinct k d inside)))
+pub all_marked : (settings : Settings) (is_odd : List ℕ → Bool) (rows : List Row) (items : List Item) (now : ℕ)
+    → settings.delete ≡ true → SetsNoLimits settings → ((id : List ℕ) → is_odd id ≡ false) → HasDistinctIds items
+    → marks_after (map (λ _. false) items) (flat_map step_commands (planned settings is_odd rows items now)) ≡ map (λ _. true) items
+all_marked settings is_odd rows items now delete unlimited clear distinct =
+    steps_mark (step_of settings is_odd rows items now) (λ message. refl) 1 items [] refl
+    (recursion_from_All _ (numbered items) (all_deleted settings is_odd rows items now delete unlimited clear distinct))
 
 -- ---- an ended session
 

@@ -1,8 +1,8 @@
 -- Mail that is moved is somewhere after each call, and in the account after one that ended and had no limits.
 use Rattle.std.{
-  proofs.Common.{◌≡◌, ◌⊎◌, inl, inr, ℕ, zero, suc, Bool, true, false, List, [], ◌∷◌, ◌++◌, refl, subst, sym, ap, ◌∙◌, arith, not},
-  proofs.Common.{◌||◌, ◌&&◌, map, Some, slice_get, length, take},
-  proofs.lemmas.{Bool.{both_ways, cases_Bool, or_left, or_right}, List.{Folds.list_any-append, length-map, take_all}, Option.same_Some},
+  proofs.Common.{◌≡◌, ◌⊎◌, inl, inr, ℕ, zero, suc, Bool, true, false, List, [], ◌∷◌, ◌++◌, refl, subst, sym, ap, ◌∙◌, not},
+  proofs.Common.{◌||◌, ◌&&◌, Some, slice_get},
+  proofs.lemmas.{Bool.{both_ways, cases_Bool, or_left, or_right}, List.Folds.list_any-append, Option.same_Some},
   proofs.Math.Logic.⊎_elim,
   specs.{List.{AllByRecursion, filter}, Prelude.bytes_eq},
 }
@@ -16,7 +16,7 @@ use Rattle.mail_terms.specs.UniqueId.{has_id}
 use Rattle.fetch_record.specs.Record.{is_delivered}
 use Rattle.pop3_wire.specs.{World.Message, declared.wire.Wire.Ghosts as WireGhosts}
 use Rattle.pop3_server.specs.{declared.maildrop.Maildrop.Ghosts as DropGhosts, LoopLink.{Loop, Serves}}
-use Rattle.fetch_rules.specs.Wanted.{fitting}
+use Rattle.fetch_rules.{specs.{Limits.SetsNoLimits, Wanted.at_most}, proofs.PlanLemmas.{at_most_all, sizes_within}}
 use Rattle.session_parts.specs.{
   declared.work.Store.TheVariants.Maildir as InMaildir,
   Account.digits_of,
@@ -115,16 +115,15 @@ of_either {X} P p q (x ∷ xs) either all more =
 
 -- each message is of this kind
 all_fetched : {W S F : Type 0} (call : Call W S F) (is_odd known : List ℕ → Bool) (Is : Message → Type 0)
-    → call.settings.max_size ≡ 0 → call.settings.max_count ≡ 0 → ((id : List ℕ) → is_odd id ≡ false)
-    → (AllByRecursion Is (filter (λ (m : Message). known m.uid) call.maildrop ++ take (fitting call.settings
-    (map message_size (filter (may_fetch call.settings is_odd known) call.maildrop)))
-    (filter (may_fetch call.settings is_odd known) call.maildrop)))
+    → SetsNoLimits call.settings → ((id : List ℕ) → is_odd id ≡ false)
+    → AllByRecursion Is (filter (λ (m : Message). known m.uid) call.maildrop
+    ++ at_most call.settings message_size (filter (may_fetch call.settings is_odd known) call.maildrop))
     → AllByRecursion Is call.maildrop
-all_fetched call is_odd known Is size count clear both =
+all_fetched call is_odd known Is unlimited clear both =
     of_either Is (λ m. known m.uid) (may_fetch call.settings is_odd known) call.maildrop either
     (all_front Is (filter (λ (m : Message). known m.uid) call.maildrop) _ both)
-    (rw (take_all (length (map message_size offered)) offered (omega (arith, length-map offered message_size)))
-    at (rw count at (all_back Is (filter (λ (m : Message). known m.uid) call.maildrop) _ both)))
+    (subst (AllByRecursion Is) (at_most_all unlimited message_size offered)
+    (all_back Is (filter (λ (m : Message). known m.uid) call.maildrop) _ both))
   where
     offered : List Message
     offered = filter (may_fetch call.settings is_odd known) call.maildrop
@@ -136,7 +135,7 @@ all_fetched call is_odd known Is size count clear both =
     bits false false = refl
 
     either : (m : Message) → (known m.uid || may_fetch call.settings is_odd known m) ≡ true
-    either m = rw (clear m.uid, size) (bits call.settings.read_all (known m.uid))
+    either m = rw (clear m.uid, sizes_within call.settings 0 unlimited.sizes m.size) (bits call.settings.read_all (known m.uid))
 
 -- ---- any list of calls
 
@@ -164,7 +163,7 @@ mail_is_moved {M} {D} {F} link disk file drop history leads laws conversations l
           | inl opens ↦ absurd (opens.cut ends.ended)
           | inr plan ↦ none_there drop.sound drop.mail laws fetch.server fetch.wire (leads (loop_to fetch.server) fetch.wire led)
               is.fetched.fresh is.drop_sound is.messages is.maildrop.distinct (rw (← sent_is, ← got_is) at plan) ends.ended delete
-              ends.max_size ends.max_count (sym odd.3 ∙ clear)
+              ends.unlimited (sym odd.3 ∙ clear)
         ]
 
     go : (state : State) (devices : Devices D F) (there : List Message)
@@ -188,7 +187,7 @@ mail_is_moved {M} {D} {F} link disk file drop history leads laws conversations l
                   let here = subst (λ ms. AllByRecursion (λ (m : Message). IsSafe mail next m.uid) ms) same
                   (all_map (shown_by drop fetch.server) (all_fetched (as_call drop fetch vanished)
                   (is_odd mail.account promised.after.maildir)
-                  (λ id. is_delivered state.account.rows id || is_held mail.account promised.left id) _ ends.max_size ends.max_count
+                  (λ id. is_delivered state.account.rows id || is_held mail.account promised.left id) _ ends.unlimited
                   (λ id. rw clear' refl) (promised.promises.wanted ends.ended).1) (λ m both. both.0)) in (
                     all_both all are.each somewhere (λ m of_it it. in_one_file mail one next kept' m of_it
                         (⊎_elim (λ (place, at). holds_in_place (λ x. IsSafe mail next x.uid) there m place here at)

@@ -1,10 +1,10 @@
 -- A call to a server with one message stores it, if memory doesn't run out.
 use Rattle.std.{
   proofs.{
-    Common.{◌≡◌, ℕ, zero, suc, Bool, true, false, [], ◌∷◌, List, None, inl, inr, refl, ◌∙◌, arith, true≢false},
+    Common.{◌≡◌, ℕ, Bool, true, false, [], ◌∷◌, List, None, inl, inr, refl, ◌∙◌, arith},
     lemmas.Bool.cases_Bool,
   },
-  specs.{List.filter, Prelude.{◌==◌, if◌then◌else◌, take}},
+  specs.List.filter,
 }
 use Rattle.mail_store.specs.{
   declared.{maildir.disk.MaildirDisk.Ghosts as DiskGhosts, file.flat_file.FlatFile.Ghosts as FileGhosts},
@@ -14,7 +14,7 @@ use Rattle.pop3_wire.specs.{World.Message, declared.wire.Wire.Ghosts as WireGhos
 use Rattle.pop3_server.specs.{declared.maildrop.Maildrop.Ghosts as DropGhosts, LoopLink.Loop, Maildrop.DropMail}
 use Rattle.rc_file.specs.declared.settings.Settings.{Settings}
 use Rattle.fetch_record.specs.{Record.empty, RecordFile.Two}
-use Rattle.fetch_rules.specs.Wanted.{at_most, is_within}
+use Rattle.fetch_rules.{specs.{Limits.AllowsAlone, Wanted.at_most}, proofs.PlanLemmas.{allows_alone, at_most_one}}
 use Rattle.session_parts.specs.{
   Account.digits_of,
   Record.FileReadAs,
@@ -26,27 +26,16 @@ use Rattle.local_fetch.specs.{
   Good.{GoodFetchesStoreAll, OneIsStored, server_with},
 }
 
-one_is_taken : (count : ℕ) (message : Message) → (count == 0) ≡ false → take count (message ∷ []) ≡ message ∷ []
-one_is_taken zero message never = absurd (true≢false never)
-one_is_taken (suc zero) message some = refl
-one_is_taken (suc (suc count)) message some = refl
-
-one_of : (count : ℕ) (message : Message) → take (if count == 0 then 1 else count) (message ∷ []) ≡ message ∷ []
-one_of count message = elim (cases_Bool (count == 0)) [
-  | inl none ↦ rw none refl
-  | inr some ↦ rw some (one_is_taken count message some)
-]
-
 -- nothing is known of it, its name is free, and it is within the limit
 is_wanted : (settings : Settings) (message : Message) (is_odd : List ℕ → Bool) → is_odd message.uid ≡ false
-    → is_within settings.max_size message.size ≡ true
+    → AllowsAlone settings message.size
     → at_most settings (λ (m : Message). m.size) (filter (may_fetch settings is_odd (λ id. false)) (message ∷ [])) ≡ message ∷ []
 is_wanted settings message is_odd free fits =
     let may : may_fetch settings is_odd (λ id. false) message ≡ true = elim (cases_Bool settings.read_all) [
-      | inl is ↦ rw (is, free, fits) refl
-      | inr isnt ↦ rw (isnt, free, fits) refl
+      | inl is ↦ rw (is, free, allows_alone settings message.size fits) refl
+      | inr isnt ↦ rw (isnt, free, allows_alone settings message.size fits) refl
     ] in
-    rw may (one_of settings.max_count message)
+    rw may (at_most_one settings (λ (m : Message). m.size) message fits)
 
 -- no file stands for the empty record
 read_none : FileReadAs None empty

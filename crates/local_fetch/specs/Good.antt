@@ -1,6 +1,6 @@
 -- A call of `fetch_local` in which nothing fails: the session ends, and has stored what it wants.
 use Rattle.std.specs.{
-  Prelude.{◌≡◌, ◌≢◌, ◌≤◌, ℕ, true, false, [], ◌∷◌, None, Some, length},
+  Prelude.{◌≡◌, ◌≢◌, ◌≤◌, ℕ, false, [], ◌∷◌, None, Some, length},
   List.AllByRecursion,
   String.string_bytes,
 }
@@ -21,7 +21,7 @@ use Rattle.pop3_server.specs.{
   ServerMachine.Machine,
 }
 use Rattle.fetch_record.specs.Record.{Loaded}
-use Rattle.fetch_rules.specs.Wanted.{is_within}
+use Rattle.fetch_rules.specs.Limits.{AllowsAlone}
 use Rattle.fetch_runs.specs.{Accounts.copies, Calls.account_over, Promises.Devices}
 use Rattle.session_parts.specs.{
   declared.work.Store.TheVariants.{Maildir as InMaildir},
@@ -106,7 +106,7 @@ pub record HadMemory {D F : Type 0} (disk : DiskGhosts D) (file : FileGhosts F) 
 abbrev pub OneIsStored : {D F : Type 0} → WireGhosts (Loop DropMail) → DiskGhosts D → FileGhosts F
     → DropGhosts DropMail → Type 0
 OneIsStored {D} {F} link disk file drop = (message : Message) (devices : Devices D F) (fetch : Fetch DropMail D F)
-    → IsMessage message → IsWithin message → is_within fetch.settings.max_size message.size ≡ true
+    → IsMessage message → IsWithin message → AllowsAlone fetch.settings message.size
     → (disk.maildir devices.store).files ≡ [] → (stored_in file devices.file).content ≡ None
     → fetch.server ≡ server_with fetch.settings message
     → WasFetchedLocally link disk file drop fetch.now (account_over InMaildir fetch.settings devices) fetch.server

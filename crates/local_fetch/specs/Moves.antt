@@ -7,6 +7,7 @@ use Rattle.mail_store.specs.{
 use Rattle.pop3_wire.specs.{World.Message, declared.wire.Wire.Ghosts as WireGhosts}
 use Rattle.mail_terms.specs.UniqueId.{has_id}
 use Rattle.pop3_server.specs.{declared.maildrop.Maildrop.Ghosts as DropGhosts, LoopLink.Loop}
+use Rattle.fetch_rules.specs.Limits.{SetsNoLimits}
 use Rattle.session_parts.specs.{
   declared.work.Store.TheVariants.Maildir as InMaildir,
   declared.report.Outcome.TheVariants.Ended,
@@ -33,8 +34,7 @@ IsInOneFile mail state m = let texts = copies state.account.maildir.files (stem_
 -- the call ended, and had no limits
 pub record EndsWithoutLimits {M S F : Type 0} (fetch : Fetch M S F) : Type 0 where
   pub ended : fetch.report.outcome ≡ Ended
-  pub max_size : fetch.settings.max_size ≡ 0
-  pub max_count : fetch.settings.max_count ≡ 0
+  pub unlimited : SetsNoLimits fetch.settings
 
 -- each of these messages is somewhere; if the next of these happens, a call to a server with what is left of the
 -- maildrop keeps its promises, and each is somewhere after it, and after others or a loss of power. If the call ended,
