@@ -74,21 +74,19 @@ calls_leave : Below → {W D F : Type 0} (link : WireGhosts W) (disk : DiskGhost
     → Shows disk file devices account → digits_of call.settings ≡ mail.account
     → IsCall link disk file InMaildir disk.sound (ComesFor mail) devices call → IsLeft link disk file mail account devices call
 calls_leave laws link disk file mail account devices call shows account_is is =
-    let met = is.made.2 is.link_sound is.store_sound is.file_sound in
-    let left : Maildir = met.4.0 in
+    let (_, _, _, _, (left, taken, (ran, durably))) = is.made.2 is.link_sound is.store_sound is.file_sound in
     let s = (sessions_lose_nothing laws call.settings (digits_of call.settings) call.now (link.history call.wire)
     (account_files left (stored_in file devices.file)) account.rows call.report (link.history call.wire')
-    (account_files (disk.maildir call.after.store) (stored_in file call.after.file)) is.made.0 (shows.intent, shows.record_is) met.4.2.0).0
-    in
+    (account_files (disk.maildir call.after.store) (stored_in file call.after.file)) is.made.0 (shows.intent, shows.record_is) ran).0 in
     let after : AccountMail = holds s.rows' (disk.maildir call.after.store) in
     let same = laws.kept call.settings (digits_of call.settings) call.now (link.history call.wire)
     (account_files left (stored_in file devices.file)) call.report (link.history call.wire')
-    (account_files (disk.maildir call.after.store) (stored_in file call.after.file)) met.4.2.0 in
+    (account_files (disk.maildir call.after.store) (stored_in file call.after.file)) ran in
     let mid : AccountMail = holds account.rows left in
     let here : mid ≡ record account { maildir = left } = refl in
     record {
       left = left;
-      taken = rw shows.maildir met.4.1;
+      taken = rw shows.maildir taken;
       sent = s.sent;
       after = after;
       sent_is = s.sent_is;
@@ -106,9 +104,9 @@ calls_leave laws link disk file mail account devices call shows account_is is =
       leaves = subst (λ (a : List ℕ). LeavesDurably file a devices.file call.after.file mid after) account_is
           (leaves_durably laws file devices.store call.after.store
           (laws.digits (string_bytes call.settings.server) call.settings.port (string_bytes call.settings.username))
-          devices.file call.after.file met.4.2.0 account.rows s.rows' (shows.intent, shows.record_is) s.keeps met.4.2.1);
+          devices.file call.after.file ran account.rows s.rows' (shows.intent, shows.record_is) s.keeps durably);
       keeps = λ trust stays. keeps_recorded laws file (InMaildir devices.store) (InMaildir call.after.store) devices.file
-          call.after.file met.4.2.0 account.rows s.rows' (shows.intent, shows.record_is) s.keeps (tt, trust.0) trust.1 stays met.4.2.1;
+          call.after.file ran account.rows s.rows' (shows.intent, shows.record_is) s.keeps (tt, trust.0) trust.1 stays durably;
     }
 
 -- readers that take files away are others that do so between two sessions
@@ -213,13 +211,13 @@ pub mbox_calls_append : Below → {W D F : Type 0} (link : WireGhosts W) (disk :
     × ((link.history call.wire').sent ≡ (link.history call.wire).sent ++ sent)
     × ShowsMbox file call.after after × AppendsMail base holds call sent after
 mbox_calls_append laws link _ file sessions base _ account devices call shows holds only_new is =
-    let met = sessions call.now (record { settings = call.settings; store = _; file = devices.file })
+    let (_, _, _, _, (ran, durably)) = sessions call.now (record { settings = call.settings; store = _; file = devices.file })
     (record { settings = call.settings; store = _; file = call.after.file }) call.wire call.wire' call.report is.made.1 is.made.2
     is.link_sound is.store_sound is.file_sound in
     let s = (mbox_sessions_lose_nothing laws call.settings call.now (link.history call.wire)
     (mbox_account_files (stored_in file devices.store) (stored_in file devices.file))
     (record { rows = account.rows; intent = account.intent }) call.report (link.history call.wire')
-    (mbox_account_files (stored_in file call.after.store) (stored_in file call.after.file)) is.made.0 shows.record_is met.4.0).0 in (
+    (mbox_account_files (stored_in file call.after.store) (stored_in file call.after.file)) is.made.0 shows.record_is ran).0 in (
       s.sent,
       _,
       s.sent_is,
@@ -235,12 +233,14 @@ mbox_calls_keep_recorded : Below → {W D F : Type 0} (link : WireGhosts W) (dis
     → ShowsMbox file devices account → IsCall link disk file InMbox file.sound (IsTextOf base) devices call
     → ShowsMbox file call.after after → ShowsAll account.rows after.rows → TrustsMbox file devices call.after
     → KeepsRecorded (file.disk devices.file) (file.disk call.after.file) account.rows after.rows call.report.outcome
-mbox_calls_keep_recorded laws {D = D} link _ file sessions base account after devices call shows is shows' stays trust =
-    let met = sessions call.now (record { settings = call.settings; store = _; file = devices.file })
+mbox_calls_keep_recorded laws {D = D} link _ file sessions base account after devices call shows is shows' stays
+    ((record_trusted, record_left), mbox_trusted, _, _) =
+    let (_, _, _, _, (ran, durably)) = sessions call.now (record { settings = call.settings; store = _; file = devices.file })
     (record { settings = call.settings; store = _; file = call.after.file }) call.wire call.wire' call.report is.made.1 is.made.2
     is.link_sound is.store_sound is.file_sound in
-    keeps_recorded laws {D = D} file (InMbox devices.store) (InMbox call.after.store) devices.file call.after.file met.4.0
-    account.rows after.rows (account.intent, shows.record_is) (after.intent, shows'.record_is) (trust.1, trust.0.0) trust.0.1 stays met.4.1
+    keeps_recorded laws {D = D} file (InMbox devices.store) (InMbox call.after.store) devices.file call.after.file ran
+    account.rows after.rows (account.intent, shows.record_is) (after.intent, shows'.record_is) (mbox_trusted, record_trusted) record_left
+    stays durably
 
 -- if whatever may be left of both files before a call holds entries, it does after it; and the first messages of these
 -- lists have them, if they had and the server shows what is next
@@ -255,7 +255,7 @@ mbox_calls_keep_safe : Below → {W D F : Type 0} (link : WireGhosts W) (disk : 
     → IsMboxSafe (Holds base Among) file devices → IsMboxSafe (Holds base Among) file call.after
 mbox_calls_keep_safe laws {D = D} link _ file sessions base Among done done' account after devices call shows holds fronts
     only_new is shows' kept trust safe =
-    let met = sessions call.now (record { settings = call.settings; store = _; file = devices.file })
+    let (_, _, _, _, (ran, durably)) = sessions call.now (record { settings = call.settings; store = _; file = devices.file })
     (record { settings = call.settings; store = _; file = call.after.file }) call.wire call.wire' call.report is.made.1 is.made.2
     is.link_sound is.store_sound is.file_sound in
     let both = subst (λ (bytes : List ℕ). (h : HoldsEntries base done (record account { file = bytes }))
@@ -265,7 +265,7 @@ mbox_calls_keep_safe laws {D = D} link _ file sessions base Among done done' acc
     session_left laws D file base Among call (link.history call.wire) (link.history call.wire') is.made.0 is.maildrop only_new
     is.served devices call.after (record_state account.rows account.intent) (record_state after.rows after.intent) done done'
     (both.0, λ all among. (both.1 all among).0) now shows.record_is shows'.record_is (λ all among. (both.1 all among).1) trust safe
-    met.4.0 met.4.1
+    ran durably
 
 -- what calls see of both files is left
 pub durable_is_mbox_safe : Below → {F : Type 0} (file : FileGhosts F) → DurableMboxesAreSafe file

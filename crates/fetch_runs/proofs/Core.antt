@@ -117,10 +117,10 @@ pub first_texts : (drop' : List Message) (qs : List (ℕ × Message)) (texts : L
     → (zip (take n (map num_item qs)) texts ≡ map with_text (take n qs))
     × (take n texts ≡ map (λ (m : Message). m.text) (map snd (take n qs)))
 first_texts _ qs _ zero h t l = (refl, refl)
-first_texts drop' (q ∷ qs) (_ ∷ texts) (suc n) h t l =
-    let same = same_Some _ _ (sym t.0.1 ∙ h.0.1) in
-    let more = first_texts _ qs texts n h.1 t.1 (omega (arith, l)) in
-    (grind (arith, same, t.0.2, more.0), grind (arith, same, t.0.2, more.1))
+first_texts drop' (q ∷ qs) (_ ∷ texts) (suc n) ((_, at), numbered) ((_, there, text_is), are) l =
+    let same = same_Some _ _ (sym there ∙ at) in
+    let more = first_texts _ qs texts n numbered are (omega (arith, l)) in
+    (grind (arith, same, text_is, more.0), grind (arith, same, text_is, more.1))
 first_texts _ qs [] n h t l = absurd (omega (arith, l))
 first_texts _ qs _ n h t l = absurd t
 

@@ -115,7 +115,7 @@ delivered_legal (row ∷ rows) id all delivered = grind (arith, delivered, all.0
 pub kept_legal : (content : Option (List ℕ)) (rows : List Row) → KeepsRows content rows → (id : List ℕ)
     → is_delivered rows id ≡ true → is_legal_id id ≡ true
 kept_legal None _ (_, stands) _ delivered = absurd (let never = rw stands.0 at delivered in cc)
-kept_legal (Some _) _ keeps id delivered = delivered_legal _ id (means_legal _ _ _ _ _ keeps.1.2) delivered
+kept_legal (Some _) _ (_, (_, _, means)) id delivered = delivered_legal _ id (means_legal _ _ _ _ _ means) delivered
 
 -- what a call leaves. No file came, or each name was durable before; and what the record shows as delivered, or may
 -- show after a loss of power, it showed or could show before, or it has a file whose name is durable

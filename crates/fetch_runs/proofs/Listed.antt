@@ -28,8 +28,8 @@ use Rattle.fetch_runs.specs.{
 -- a reply's body is what follows its first line
 body_is : OneLine → (reply : WholeReply) (first body : List ℕ) → IsLine reply.first → SaysAnything Positive first
     → reply_bytes reply ≡ first ++ body → body ≡ body_bytes reply.body
-body_is one reply _ body line says whole =
-    (one _ _ body (body_bytes reply.body) says.1.0 line (ap (λ l. l ++ body) (sym says.1.1) ∙ sym whole)).1
+body_is one reply _ body line (_, (is_line, said)) whole =
+    (one _ _ body (body_bytes reply.body) is_line line (ap (λ l. l ++ body) (sym said) ∙ sym whole)).1
 
 -- ---- texts
 
@@ -145,22 +145,22 @@ pub listing_is_maildrop : Below
     → AreGood (User name ∷ Pass word ∷ Stat ∷ UidlAll ∷ ListAll ∷ commands) (user ∷ pass ∷ stat ∷ uidl ∷ list ∷ replies)
     → AreGranted drop (no_marks drop) (User name ∷ Pass word ∷ Stat ∷ UidlAll ∷ ListAll ∷ commands)
     (user ∷ pass ∷ stat ∷ uidl ∷ list ∷ replies) → IsListed stat uidl list items → items ≡ listing_of drop
-listing_is_maildrop laws drop name word commands user pass stat uidl list replies items good are listed =
-    let marks : are.2.0 ≡ no_marks drop = are.2.1.1 ∙ are.1.1 in
-    let stays : are.2.2.0 ≡ no_marks drop = are.2.2.1.4 ∙ marks in
-    let total = listed.joined.count ∙ count_same laws.line laws.scans drop are.2.0 are.2.2.0 stat listed.count good.1.1.0
-    are.2.2.1 marks listed.counts in
-    let g = are.2.2.2.1 in
-    let h = are.2.2.2.2.1 in
+listing_is_maildrop laws drop name word commands user pass stat uidl list replies items
+    (_, (_, (good_stat, (good_uidl, (good_list, _)))))
+    (_, to_user, (marks_in, to_pass, (marks_on, to_stat, (marks_uidl, to_uidl, (_, to_list, _))))) listed =
+    let marks : marks_in ≡ no_marks drop = to_pass.1 ∙ to_user.1 in
+    let stays : marks_on ≡ no_marks drop = to_stat.4 ∙ marks in
+    let total = listed.joined.count
+    ∙ count_same laws.line laws.scans drop marks_in marks_on stat listed.count good_stat to_stat marks listed.counts in
     ext_get_or (item_of empty_message) items (listing_of drop) (total ∙ sym (length-map drop item_of)) (λ k l.
     let inside : k < length drop = omega (arith, l, total) in
     same_item (get_or items k (item_of empty_message)) (get_or drop k empty_message)
     (value_at number_and_id (λ row. row.number) (λ row. row.uid) (λ m. m.uid) (λ i. i.uid) IsUidRow
-    (uid_agrees laws.uids) items laws.line laws.lines drop are.2.2.0 uidl listed.uids stays good.1.1.1.0.line
-    listed.named (rw listed.named.1 at good.1.1.1.0.body) g.0 listed.joined.ids k inside)
+    (uid_agrees laws.uids) items laws.line laws.lines drop marks_on uidl listed.uids stays good_uidl.line
+    listed.named (rw listed.named.1 at good_uidl.body) to_uidl.0 listed.joined.ids k inside)
     (value_at number_and_size (λ row. row.number) (λ row. row.size) (λ m. m.size) (λ i. i.size) IsScanRow
-    (scan_agrees laws.scans) items laws.line laws.lines drop are.2.2.2.0 list listed.sizes (g.1 ∙ stays) good.1.1.1.1.0.line
-    listed.sized (rw listed.sized.1 at good.1.1.1.1.0.body) h.0 listed.joined.octets k inside)
+    (scan_agrees laws.scans) items laws.line laws.lines drop marks_uidl list listed.sizes (to_uidl.1 ∙ stays) good_list.line
+    listed.sized (rw listed.sized.1 at good_list.body) to_list.0 listed.joined.octets k inside)
     ∙ sym (get_or-map item_of drop k empty_message (item_of empty_message) inside))
 
 -- ---- what was got splits into replies in one way only
@@ -233,9 +233,10 @@ module _ (law : OneReading) (drop : List Message) where
 pub honest_is_granted : Below → HonestIsGranted
 honest_is_granted laws drop sent _ marks commands replies honest talked =
     let same = laws.commands commands honest.commands sent talked.asked honest.asked in
-    let behind = laws.line (indicator honest.status ++ honest.greets.0) talked.hello honest.replies
-    ((flat_map reply_bytes replies ++ talked.rest) ++ honest.later) honest.greets.1.0 talked.line
-    (rw (← honest.greets.1.1, honest.begins, talked.whole)
+    let (after, (line, greeting_is)) = honest.greets in
+    let behind = laws.line (indicator honest.status ++ after) talked.hello honest.replies
+    ((flat_map reply_bytes replies ++ talked.rest) ++ honest.later) line talked.line
+    (rw (← greeting_is, honest.begins, talked.whole)
     (append_assoc (ended talked.hello) (flat_map reply_bytes replies ++ talked.rest) honest.later)) in
     rw same (walk laws.reading drop (no_marks _) marks honest.commands replies honest.replies []
     (talked.rest ++ honest.later) honest.replied

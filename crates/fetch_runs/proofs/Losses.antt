@@ -423,13 +423,13 @@ module _ (mail : Mail) (own : (m : Message) → names_id mail.account m.uid (nam
       → AllByRecursion (λ (m : Message). any_named (names_id mail.account m.uid) came ≡ true) ms
   has_come _ [] e _ = tt
   has_come [] (m ∷ _) e _ = absurd cc
-  has_come (g ∷ came) (m ∷ ms) e all =
+  has_come (g ∷ came) (m ∷ ms) e ((is_named, _), all) =
       let head : its_file m ≡ file g.name g.content = cc in
       let tail : map its_file ms ≡ without_flags came = cc in
       let name =
       subst (λ h. names_id mail.account m.uid h.name ≡ true) head (own m) in (
-        or_left _ _ (and_from _ _ name all.0.0),
-        all_map ms (has_come came ms tail all.1) (λ x there. or_right _ _ there),
+        or_left _ _ (and_from _ _ name is_named),
+        all_map ms (has_come came ms tail all) (λ x there. or_right _ _ there),
       )
 
   module _ {W S F G : Type 0} (store : FileGhosts F) (from f : F) (state : State) (call : Call W S G) (sent : List ℕ)

@@ -292,12 +292,16 @@ module _ (laws : Below) (D : Type 0) {F : Type 0} (files : FileGhosts F)
   read_is : {left : Option (List ℕ)} → left ≡ old.file.content → (then : RecordState) → Keeps left then → then ≡ held
   read_is is then keeps = same_held laws.one _ then held (subst (λ c. Keeps c then) is keeps) stood
 
+  -- without a record's file nothing is left of one
+  none_left : new.file.content ≡ None → (left : Option (List ℕ)) → MayLeave (files.disk to.file) left → left ≡ None
+  none_left = let ((_, none), _, _, _) = trust in none
+
   -- just what calls see is left of the record's file, if it is safe
   record_left : IsSafeFile files to.file → (left : Option (List ℕ)) → MayLeave (files.disk to.file) left → left ≡ new.file.content
   record_left firm left may = by _ refl
     where
       by : (content : Option (List ℕ)) → new.file.content ≡ content → left ≡ new.file.content
-      by None none = trust.0.1 none left may ∙ sym none
+      by None none = none_left none left may ∙ sym none
       by (Some bytes) some = (firm.1 bytes some).1 left may ∙ sym some
 
   mbox_left : IsSafeFile files to.store → (bytes : List ℕ) → new.mbox.content ≡ Some bytes
@@ -504,7 +508,7 @@ module _ (laws : Below) (D : Type 0) {F : Type 0} (files : FileGhosts F)
             (unsaved_whole u) left mbox then e keeps
 
         by : (content : Option (List ℕ)) → new.file.content ≡ content → Left left mbox
-        by None none = left_after left mbox (trust.0.1 none left may ∙ sym none) (trust.3 none mbox also)
+        by None none = left_after left mbox (none_left none left may ∙ sym none) (trust.3 none mbox also)
         by (Some now) some = by_cut (w.durably.1 trust.2 bytes mid_is mbox also now some left may)
 
   -- ---- whatever cut it
@@ -512,7 +516,9 @@ module _ (laws : Below) (D : Type 0) {F : Type 0} (files : FileGhosts F)
   pub session_left : (session : IsSession) → DurableSession {D = D} files (InMbox from.store) from.file session (InMbox to.store) to.file
       → IsMboxSafe (Holds base Among) files to
   session_left session durably rows intent left mbox may keeps also =
-      let goes = way {D = D} files (InMbox from.store) from.file session (InMbox to.store) to.file durably (trust.1, trust.0.0) in
+      let ((record_trusted, _), mbox_trusted, _, _) = trust in
+      let goes = way {D = D} files (InMbox from.store) from.file session (InMbox to.store) to.file durably
+      (mbox_trusted, record_trusted) in
       let all : Left left mbox = elim goes [
         | Untouched un still ↦ left_before left mbox (un.no_more left may) (still mbox also)
         | NotReady _ _ is leaves ↦ unready_left is.content leaves left mbox may also

@@ -69,9 +69,9 @@ pub at_place : (drop' : List Message) (qs : List (ℕ × Message)) (texts : List
     → (q : ℕ × Message) × (message ≡ num_item q) × (text ≡ q.1.text) × (take (suc n) qs ≡ take n qs ++ q ∷ [])
 at_place _ qs [] n h t w g = absurd cc
 at_place _ [] (x ∷ _) n h t w g = absurd t
-at_place _ (q ∷ qs) (x ∷ _) zero h t w g =
-    let same = same_Some _ _ (sym t.0.1 ∙ h.0.1) in
-    (q, sym (same_Some _ _ w), sym (same_Some _ _ g) ∙ t.0.2 ∙ ap (λ m. m.text) same, refl)
+at_place _ (q ∷ qs) (x ∷ _) zero ((_, at), _) ((_, there, text_is), _) w g =
+    let same = same_Some _ _ (sym there ∙ at) in
+    (q, sym (same_Some _ _ w), sym (same_Some _ _ g) ∙ text_is ∙ ap (λ m. m.text) same, refl)
 at_place _ (q ∷ qs) (x ∷ texts) (suc n) h t w g = let r = at_place _ qs texts n h.1 t.1 w g in (r.0, r.1, r.2, ap (λ l. q ∷ l) r.3)
 
 -- ---- what is next
@@ -335,13 +335,16 @@ module _ (base : Base) where
       placed b = at_place _ _ did.texts s.stored (wants_placed v.settings none_odd rows v.maildrop)
           (rw (wanted_is fetch) at honest.texts) (rw (wanted_is fetch) at b.wanted) b.got
 
-      broken_taken : (b : Breaks) → new (suc s.stored) ≡ new s.stored ++ (placed b).0.1 ∷ []
+      abbrev broken_next : Breaks → Message
+      broken_next b = (placed b).0.1
+
+      broken_taken : (b : Breaks) → new (suc s.stored) ≡ new s.stored ++ broken_next b ∷ []
       broken_taken b = rw (← taken_is fetch (suc s.stored), (placed b).3, map-append, taken_is fetch s.stored)
 
       pub broken : Breaks → Opens
       broken b =
           let place = placed b in
-          let next = place.0.1 in
+          let next = broken_next b in
           let taken = broken_taken b in
           record {
             next = next;

@@ -293,9 +293,9 @@ pairs : (account : List ℕ) (drop : List Message) (wanted : List (ℕ × Item))
 pairs _ _ wanted texts zero first _ = tt
 pairs _ _ [] texts (suc n) first _ = tt
 pairs _ _ (w ∷ wanted) [] (suc n) first _ = tt
-pairs account drop (w ∷ wanted) (text ∷ texts) (suc n) first ((m, there, is), are) =
-    let same = same_Some _ _ (sym first.0.1 ∙ item_at drop (w.0 - 1) m there) in
-    ((m, (w.0 - 1, there), rw (same, is) refl), pairs account _ wanted texts n first.1 are)
+pairs account drop (w ∷ wanted) (text ∷ texts) (suc n) ((_, at, _), first) ((m, there, is), are) =
+    let same = same_Some _ _ (sym at ∙ item_at drop (w.0 - 1) m there) in
+    ((m, (w.0 - 1, there), rw (same, is) refl), pairs account _ wanted texts n first are)
 
 module _ (laws : Below) {sent got : List ℕ} (effect : Effect) {drop : List Message} {vanished : List (List ℕ)}
     (sends : SendsOnly (IsBegun effect.listing effect.begun) sent)
@@ -332,10 +332,10 @@ module _ (laws : Below) {sent got : List ℕ} (effect : Effect) {drop : List Mes
           → AllByRecursion (IsNumbered drop) found → AreTexts drop wanted (map (λ (p : ℕ × List ℕ). p.1) found)
       texts [] wanted e h = tt
       texts (f ∷ found) [] e h = absurd cc
-      texts (f ∷ found) (w ∷ wanted) e h =
+      texts (f ∷ found) (w ∷ wanted) e ((m, there, text_is), h) =
           let head : f.0 ≡ w.0 = cc in
           let tail : map (λ (p : ℕ × List ℕ). p.0) found ≡ map (λ (p : ℕ × Item). p.0) (take (length found) wanted) = cc in
-          ((h.0.0, rw (← head) h.0.1, h.0.2), texts found wanted tail h.1)
+          ((m, rw (← head) there, text_is), texts found wanted tail h)
 
   -- so a step that was read is an honest one
   one_visit : {A B C : Type 0} (wanted : List (ℕ × Item)) → A ⊎ (C × ReadsReplies wanted sends.commands sent got effect)

@@ -67,7 +67,7 @@ pub record OpeningReplies (name word : List ℕ) (welcome : List WholeReply) (co
 pub replied : {name word : List ℕ} (welcome : List WholeReply) {counted named sized : WholeReply}
     → AllZip IsGood (opening name word) (welcome ++ counted ∷ named ∷ sized ∷ []) → OpeningReplies name word welcome counted named sized
 replied (a ∷ b ∷ c ∷ []) good = record { hello = a; to_user = b; to_pass = c; is = refl; good = good }
-replied (a ∷ b ∷ c ∷ d ∷ e ∷ f ∷ g ∷ more) good = absurd good.1.1.1.1.1.1
+replied (a ∷ b ∷ c ∷ d ∷ e ∷ f ∷ g ∷ more) (_, (_, (_, (_, (_, (_, never)))))) = absurd never
 replied _ good = search rules depth 9
 
 -- the greeting has no body
@@ -91,11 +91,13 @@ module _ {name word : List ℕ} {old new : Place} {count : ℕ} {uids : List Uid
   -- how many messages are listed
   pub few_items : {items : List Item} → Joins count uids sizes items → length items ≤ 100000
   few_items joins =
-      let good = (replied _ opened.talked.good).good.1.1.1.0 in
+      let (_, (_, (_, (good, _)))) = (replied _ opened.talked.good).good in
+      let (after, begins, rest_is) = good.positive in
+      let (_, _, (after', begins', rest_is'), count_is) = opened.gives in
       let fits = good.fits refl in
-      let rest = good.positive.2 ∙ ap without_space (append_cancel_left (indicator Positive) good.positive.0 opened.gives.2.0
-      (sym good.positive.1 ∙ opened.gives.2.1)) ∙ sym opened.gives.2.2 in
-      grind (arith, sym fits.2 ∙ ap number_and_size rest ∙ opened.gives.3, joins.count, fits.3)
+      let rest = rest_is ∙ ap without_space (append_cancel_left (indicator Positive) after after' (sym begins ∙ begins'))
+      ∙ sym rest_is' in
+      grind (arith, sym fits.2 ∙ ap number_and_size rest ∙ count_is, joins.count, fits.3)
 
   -- the listing that the replies give
   listed : {items : List Item} → Joins count uids sizes items → IsListed opened.counted opened.named opened.sized items

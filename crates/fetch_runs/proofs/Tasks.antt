@@ -154,12 +154,12 @@ module _ (D : List ℕ → Type 0) (p : Inputs) (delivered : (uid : List ℕ) �
   fit_all : (qs : List (ℕ × Item)) (later : List Task) → AllByRecursion (IsNumbered p.items) qs
       → AreFit (flat_map (tasks_at (steps_on p) (is_held p.account p.maildir)) qs) later
   fit_all [] later at = (tt, λ safe. safe)
-  fit_all (q ∷ qs) later at =
-      let more = fit_all qs later at.1 in
+  fit_all (q ∷ qs) later ((numbered, there), at) =
+      let more = fit_all qs later at in
       let first = fit_by (fetches (steps_on p q)) (is_held p.account p.maildir q.1.uid) (steps_on p q).delete q.0 q.1.uid
       q.1.size (flat_map (tasks_at (steps_on p) (is_held p.account p.maildir)) qs ++ later) refl
-      (listed_at p.items (q.0 - 1) q.1 at.0.1) (λ is. (q.1, at.0.1, at.0.0, (deleted_parts q is).0))
-      (λ is not. delivered q.1.uid ((deleted_parts q is).1 not)) (λ is. rw at.0.1 (is, tt)) in (
+      (listed_at p.items (q.0 - 1) q.1 there) (λ is. (q.1, there, numbered, (deleted_parts q is).0))
+      (λ is not. delivered q.1.uid ((deleted_parts q is).1 not)) (λ is. rw there (is, tt)) in (
         all_append _ _ _ first.0 more.0,
         λ safe. rw append_assoc (first.1 (more.1 safe)),
       )
@@ -280,8 +280,8 @@ marks_by : (p : Inputs) (tasks : List Task) (rows : List Row)
 marks_by p [] rows settled _ = refl
 marks_by p (stores number _ ∷ tasks) rows settled right = marks_by p tasks _
     (λ _ listed held. settled_marked _ _ _ (settled _ listed held)) right.1
-marks_by p (rereads number uid ∷ tasks) rows settled right =
-    rw (settled_stays rows uid (settled uid right.0.1 right.0.0)) (marks_by p tasks _ settled right.1)
+marks_by p (rereads number uid ∷ tasks) rows settled ((held, listed), right) =
+    rw (settled_stays rows uid (settled uid listed held)) (marks_by p tasks _ settled right)
 marks_by p (_ ∷ tasks) rows settled right = marks_by p tasks _ settled right.1
 
 -- ---- what is recorded as delivered
@@ -298,9 +298,9 @@ marked_delivered laws rows (id ∷ ids) all = (
 stored_has_row : Below → (p : Inputs) (tasks : List Task) → AllByRecursion (IsRightOn p) tasks
     → AllByRecursion (λ (uid : List ℕ). has_row (rows_on p) uid ≡ true) (ids_ahead tasks)
 stored_has_row _ p [] _ = tt
-stored_has_row laws p (stores number uid ∷ tasks) right = (
-  rw (laws.listed p.rows p.items (flags_of p.account p.maildir p.items) p.now uid, right.0.1) (or_right _ _ refl),
-  stored_has_row laws p tasks right.1,
+stored_has_row laws p (stores number uid ∷ tasks) ((_, listed), right) = (
+  rw (laws.listed p.rows p.items (flags_of p.account p.maildir p.items) p.now uid, listed) (or_right _ _ refl),
+  stored_has_row laws p tasks right,
 )
 stored_has_row laws p (_ ∷ tasks) right = stored_has_row laws p tasks right.1
 

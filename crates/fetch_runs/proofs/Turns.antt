@@ -209,7 +209,8 @@ pub can_in : (turns : List Turn) → AllByRecursion CanBeSaid turns
     → AllByRecursion (λ command. can_be_sent command ≡ true) (commands_in turns) × AllByRecursion HasNumbers (commands_in turns)
 can_in [] all = (tt, tt)
 can_in (None ∷ turns) all = can_in turns all.1
-can_in (Some _ ∷ turns) all = let later = can_in turns all.1 in ((all.0.0, later.0), (all.0.1, later.1))
+can_in (Some _ ∷ turns) ((said, numbers), all) =
+    let (all_said, all_numbers) = can_in turns all in ((said, all_said), (numbers, all_numbers))
 
 -- octets after which the next of these commands may have been begun
 abbrev Spoken : List Command → List Command → List ℕ → Type 0
