@@ -84,7 +84,7 @@ plan_ahead name word settings target items now store rows =
 
 goods : (n : ℕ) (turns : List Turn) (replies : List WholeReply) → AllZip (IsSaid n) turns replies → AllZip IsGood turns replies
 goods n [] [] all = tt
-goods n (turn ∷ turns) (reply ∷ replies) all = (all.0.0, goods n turns replies all.1)
+goods n (turn ∷ turns) (reply ∷ replies) ((good, _), all) = (good, goods n turns replies all)
 goods n turns replies never = absurd never
 
 -- a reply gives one count
@@ -183,12 +183,12 @@ module _ {M : Type 0} (sound : M → Type 0) (mail : M → DropMail) (server : M
       (six.hello ∷ six.to_user ∷ six.to_pass ∷ opened.counted ∷ opened.named ∷ opened.sized ∷ []) =
       subst (λ (ws : List WholeReply). AllZip (IsSaid n) (opening name word) (ws ++ opened.counted ∷ opened.named ∷ opened.sized ∷ []))
       six.is (subst (AllZip (IsSaid n) (opening name word)) (sym read.0) was.all) in
-      let last = all.1.1.1 in
-      let count_is = one_count opened.counted count n opened.gives last.0.1 in (
+      let (_, (_, (_, (to_stat, (to_uidl, (to_list, _)))))) = all in
+      let count_is = one_count opened.counted count n opened.gives to_stat.1 in (
         count_is,
         subst (λ (k : ℕ). Agree k uids sizes) (sym count_is) (
-          rows_numbered IsUidLine (λ (row : UidRow). row.number) n opened.named uids last.1.0.1 opened.names,
-          rows_numbered IsScanLine (λ (row : ScanRow). row.number) n opened.sized sizes last.1.1.0.1 opened.octets,
+          rows_numbered IsUidLine (λ (row : UidRow). row.number) n opened.named uids to_uidl.1 opened.names,
+          rows_numbered IsScanLine (λ (row : ScanRow). row.number) n opened.sized sizes to_list.1 opened.octets,
         ),
       )
 

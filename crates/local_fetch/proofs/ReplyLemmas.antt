@@ -204,9 +204,9 @@ module _ {R : Type 0} (turn : Turn) (IsThisRow : List ℕ → R → Type 0) (num
 
 uid_good : IsGoodLine uidl IsUidLine (λ (row : UidRow). row.number) uid_line
 uid_good k m few is =
-    let row = uid_rows_are_read k m.uid few is.is_message.legal in
-    let read = ap number_and_id row.0.1 ∙ row.1 in (
-      row.0.0,
+    let ((line, rest_is), fields_are) = uid_rows_are_read k m.uid few is.is_message.legal in
+    let read = ap number_and_id rest_is ∙ fields_are in (
+      line,
       omega (arith, row_length k m.uid few (short_id m.uid is.is_message.legal)),
       subst (λ r. IsOk r) (sym read) refl,
       λ r are. first_is_same r.number k r.uid m.uid (sym are ∙ read),
@@ -214,9 +214,9 @@ uid_good k m few is =
 
 scan_good : IsGoodLine list IsScanLine (λ (row : ScanRow). row.number) scan_line
 scan_good k m few is =
-    let row = scan_rows_are_read k m.size few (omega (arith, is.within)) in
-    let read = ap number_and_size row.0.1 ∙ row.1 in (
-      row.0.0,
+    let ((line, rest_is), fields_are) = scan_rows_are_read k m.size few (omega (arith, is.within)) in
+    let read = ap number_and_size rest_is ∙ fields_are in (
+      line,
       omega (arith, row_length k (decimal m.size) few (size_length m.size (omega (arith, is.within)))),
       subst (λ r. IsOk r) (sym read) refl,
       λ r are. first_is_same r.number k r.size m.size (sym are ∙ read),

@@ -281,16 +281,16 @@ module _ {D : Type 0} (sound : D → Type 0) (mail : D → DropMail) (name word 
   all_replied new waiting more none s stage (Some c ∷ turns) old [] answers stands user pass plan can each sent run still =
       absurd (none (rw run.1 (is_up stage c old stands plan.0)) (line_of c) (asking turns ++ more)
       (sent ∙ append_assoc (ended (line_of c)) (asking turns) more ∙ append_assoc (line_of c) crlf (asking turns ++ more)))
-  all_replied new waiting more none s stage (Some c ∷ turns) old (line ∷ lines) answers stands user pass plan can each sent
-      (first, rest, next, is, turn, run) still =
-      let same = one_line line (line_of c) (flat_map ended lines ++ waiting) (asking turns ++ more) each.0 (is_line c can.0.1 can.0.0)
+  all_replied new waiting more none s stage (Some c ∷ turns) old (line ∷ lines) answers stands user pass plan ((said, numbers), can) each
+      sent (first, rest, next, is, turn, run) still =
+      let same = one_line line (line_of c) (flat_map ended lines ++ waiting) (asking turns ++ more) each.0 (is_line c numbers said)
       (sym (append_assoc (ended line) (flat_map ended lines) waiting) ∙ sent ∙ append_assoc (ended (line_of c)) (asking turns) more) in
       let (now, on) = run_sound sound mail next new lines rest run s in
       let up = (did_sound sound mail _ old.drop first next.state next.drop turn.answers.does now).1 in
-      let does = rw (same.0, round_trip c can.0.1 can.0.0) at turn.answers.does in
+      let does = rw (same.0, round_trip c numbers said) at turn.answers.does in
       let (good, stands') = step stage c old next first stands plan.0 user pass does now (omega (arith, up, on, still)) in
       let later = all_replied new waiting more none s (after stage c) turns next lines rest stands' (turn.user ∙ user)
-      (turn.pass ∙ pass) plan.1 can.1 each.1 same.1 run (omega (arith, up, on, still)) in
+      (turn.pass ∙ pass) plan.1 can each.1 same.1 run (omega (arith, up, on, still)) in
       record {
         replies = good.0 ∷ later.replies;
         rest = later.rest;

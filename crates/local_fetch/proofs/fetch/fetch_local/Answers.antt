@@ -24,13 +24,14 @@ returns-clause-fetched g c =
       up = c.failures.ensures.up;
       over = c.failures.ensures.over;
       served = λ store_sound file_sound drop_sound messages. by_kind disk file new.store
-          (λ d. let went = c.sessions_by_store.ensures.maildir _ _ _ _ _ _ same ran small d file_sound in
+          (λ d. let (_, _, _, led, (left, _, session)) = c.sessions_by_store.ensures.maildir _ _ _ _ _ _ same ran small d
+          file_sound in
           fetches drop.sound drop.mail c.loops_are_honest.ensures c.sessions_are_conversations.ensures old.settings
-          (digits_of old.settings) _ _ _ (account_files went.4.0 (stored_in file old.file)) c.session-report.result
-          (account_files (maildir_of disk new.store) (stored_in file new.file)) c.requires.new valid went.3 went.4.2 drop_sound messages)
-          (λ m. let went = c.sessions_by_store.ensures.mbox _ _ _ _ _ _ same ran small m file_sound in
+          (digits_of old.settings) _ _ _ (account_files left (stored_in file old.file)) c.session-report.result
+          (account_files (maildir_of disk new.store) (stored_in file new.file)) c.requires.new valid led session drop_sound messages)
+          (λ m. let (_, _, _, led, (session, _)) = c.sessions_by_store.ensures.mbox _ _ _ _ _ _ same ran small m file_sound in
           mbox_fetches drop.sound drop.mail c.loops_are_honest.ensures c.mbox_sessions_follow_plans.ensures old.settings _ _ _
           (mbox_account_files (mbox_of file old.store) (stored_in file old.file)) c.session-report.result
-          (mbox_account_files (mbox_of file new.store) (stored_in file new.file)) c.requires.new valid went.3 went.4.0 drop_sound messages)
+          (mbox_account_files (mbox_of file new.store) (stored_in file new.file)) c.requires.new valid led session drop_sound messages)
           store_sound;
     }
