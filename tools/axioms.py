@@ -56,6 +56,7 @@ EXCUSES = {
     "doubted": "a flush of a file was refused before, after which none makes it durable",
     "is_there": "a folder isn't there",
     "SyncsNames": "the file system flushes no folders, which ends the premise",
+    "SyncsFolder": "the file system flushes no folders, which ends the premise",
     "FlushesNames": "the file system flushes no folders, which ends the premise",
     "FlushesNamesIn": "the file system flushes no folders, which ends the premise",
     "Creates": "the place where files are made isn't there",

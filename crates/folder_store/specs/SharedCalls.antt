@@ -19,8 +19,8 @@ use Rattle.folder_store.specs.{
   declared.shared_calls.{ListedNames.ListedNames, Lead.{Lead, TheVariants.{File, Directory, Odd}}},
   Calls.IsAbsent,
   FileFolder.{MadeFile, empty_made},
-  HostAnswers.{IsFolder, refuses_links},
-  MailCalls.{ListsIn, PutsIntoNew, Then, file_names, odd_names},
+  HostAnswers.{IsFolder, flushes_none, refuses_links},
+  MailCalls.{ListsIn, PutsIntoNew, Then, file_names, names_flushed_in, odd_names},
   MailFolders.{Directories, odd_names_in, rests_in, unknown_directories, unopened_in},
 }
 
@@ -82,6 +82,14 @@ abbrev pub Links : {T : Type 0} → MadeFile → List ℕ → Result T Denial �
 Links file name (Ok done) old new = PutsIntoNew file name old new
 Links file name (Err d) old new =
     (new ≡ old) ⊎ ((refuses_links (error_kind d.error) ≡ false) × PutsIntoNew file name old new)
+
+-- fsync(2) of a folder: the names in it are durable. ENOENT: it isn't there; another refused call did that, or nothing.
+-- That the file system flushes no folders (EINVAL, EOPNOTSUPP) ends the premise
+abbrev pub SyncsFolder : {T : Type 0} → Folder → Result T Denial → Directories → Directories → Type 0
+SyncsFolder folder (Ok done) old new = new ≡ names_flushed_in folder old
+SyncsFolder folder (Err d) old new = (flushes_none (error_kind d.error) ≡ false)
+    × (((new ≡ old) × (IsAbsent d → is_there old.there folder ≡ false))
+    ⊎ ((IsAbsent d → ⊥) × (new ≡ names_flushed_in folder old)))
 
 -- ---- a system of which nothing is known
 

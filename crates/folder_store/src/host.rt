@@ -23,12 +23,13 @@ use crate::handles::Handles;
 use crate::host_calls::HostCalls;
 use crate::host_paths::HostPaths;
 use crate::kept_file::{
-    append_kept, cut_kept, flush_kept, flush_links, flush_names, make_marked, put_made, size_of,
+    append_kept, cut_kept, flush_kept, flush_links, flush_names, make_marked, names_of, put_made,
+    size_of,
 };
 use crate::new_file::{CallsNewFile, answer_of};
 use crate::opened_file::{IRREGULAR, LEADS_NOWHERE, open_found, read_all, read_edges, read_piece};
 use crate::process_mark::ProcessMark;
-use crate::system::sweep;
+use crate::system::{flushes_none, sweep};
 use crate::wanted::Wanted;
 use mail_store::{Edges, StoreFault};
 use std::alloc::{AllocError, Global};
@@ -250,9 +251,25 @@ impl<'a, R: Files + AllocGlobal> CallsFolder<'a, HostCalls<'a, R>> {
         }
     }
 
-    /// Flushes the names.
-    pub(crate) fn sync_names(&mut self) -> Result<bool, Denial> {
-        flush_names(&mut self.calls, &self.paths, &mut self.handles)
+    // fsync(2) of the folder, which stays open unless that is refused. Only that call's own answer says that the system
+    // flushes no folders, of which a note is taken.
+    pub(crate) fn fsync_names(&mut self) -> Result<(), Denial> {
+        let names = match names_of(&mut self.calls, &self.paths, &mut self.handles) {
+            Err(fault) if flushes_none(&fault) => {
+                return Err(self.folder_refusal("can't be opened"));
+            }
+            names => names?,
+        };
+        let answer = self.calls.fsync_folder(&names.folder);
+        if let Err(fault) = &answer {
+            if flushes_none(fault) {
+                let path = self.paths.folder_path()?;
+                self.handles.note_unflushed(Some(path));
+            }
+            return answer;
+        }
+        self.handles.keep_names(names);
+        Ok(())
     }
 }
 

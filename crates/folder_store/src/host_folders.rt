@@ -16,7 +16,7 @@ use crate::mail_folders::{FoundNames, MailFolders, Sought};
 use crate::new_file::{CallsNewFile, answer_of};
 use crate::process_mark::ProcessMark;
 use crate::shared_calls::SharedCalls;
-use crate::shared_folders::{check_folder, check_rest, look_up, put_new};
+use crate::shared_folders::{check_folder, check_rest, flush_names, look_up, put_new};
 use mail_store::{Folder, StoreFault};
 use std::alloc::Global;
 use std::rt::Files;
@@ -204,7 +204,7 @@ impl<'a, S: SharedCalls + Drop> MailFolders for CallsFolders<'a, S> {
     }
 
     fn flush_names(&mut self, folder: Folder) -> Result<bool, StoreFault> {
-        let answer = self.calls.flush_names(folder);
+        let answer = flush_names(&mut self.calls, folder);
         answer_of(self.refusals, answer)
     }
 }

@@ -189,8 +189,8 @@ impl<'a, R: Files + Clock + AllocGlobal + Clone + Drop> SharedCalls
         self.system.unlink(file.path.as_str())
     }
 
-    fn flush_names(&mut self, folder: Folder) -> Result<bool, Denial> {
-        self.folder_mut(folder).sync_names()
+    fn fsync_folder(&mut self, folder: Folder) -> Result<(), Denial> {
+        self.folder_mut(folder).fsync_names()
     }
 
     fn now(&self) -> Option<Duration> {

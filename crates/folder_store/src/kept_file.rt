@@ -410,7 +410,7 @@ fn flush_folder<C: FileCalls>(calls: &mut C, folder: &C::File) -> Result<bool, D
 
 /// The folder itself: it is opened once, and again if its path leads to another one by now, since files are put there
 /// by their paths. It is taken out.
-fn names_of<C: FileCalls>(
+pub fn names_of<C: FileCalls>(
     calls: &mut C,
     paths: &HostPaths<'_>,
     handles: &mut Handles<C::File>,

@@ -29,7 +29,7 @@ pub enum Lead {
 /// refused. Readers may move files between the two, change their marks and take files away before each call.
 pub trait SharedCalls {
     ghost use Rattle.std.specs.Prelude.{◌≡◌, ℕ, List, false, true, IfErr, IfOk, Ok};
-    ghost use Rattle.folder_store.specs.MailCalls.{FlushesFiles, FlushesNamesIn, PutsDraft};
+    ghost use Rattle.folder_store.specs.MailCalls.{FlushesFiles, PutsDraft};
     ghost use Rattle.folder_store.specs.Calls.{IsAbsent, answered};
     ghost use Rattle.folder_store.specs.SharedCalls.{
       CreatesIn,
@@ -40,6 +40,7 @@ pub trait SharedCalls {
       ListsShared,
       Shared,
       StatsFolder,
+      SyncsFolder,
       listed_in,
     };
 
@@ -108,10 +109,10 @@ pub trait SharedCalls {
     fn unlink(&mut self, file: &Self::Made) -> Result<(), Denial>
         ensures { sound self.new → sound self.old × Self.Made.sound file.now × (shared self.new ≡ shared self.old) };
 
-    /// fsync(2) of a folder. False if its file system flushes no folders.
-    fn flush_names(&mut self, folder: Folder) -> Result<bool, Denial>
+    /// fsync(2) of a folder.
+    fn fsync_folder(&mut self, folder: Folder) -> Result<(), Denial>
         ensures { sound self.new → sound self.old
-            × Did (FlushesNamesIn folder (answered result)) (shared self.old) (shared self.new) };
+            × Did (SyncsFolder folder result) (shared self.old) (shared self.new) };
 
     /// clock_gettime(2), by the clock that never goes back, if it can be read.
     fn now(&self) -> Option<Duration>;

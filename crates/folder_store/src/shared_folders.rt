@@ -8,7 +8,7 @@ ghost use Rattle.std.specs.{
 ghost use Rattle.folder_store.specs.{
   Calls.answered,
   HostAnswers.refuses_links,
-  MailCalls.{ChecksIn, PutsDraft, TellsFiles, TellsRest},
+  MailCalls.{ChecksIn, FlushesNamesIn, PutsDraft, TellsFiles, TellsRest},
   SharedCalls.{AddsNames, Did, IsSame, MayListAgain, listed_in},
 };
 
@@ -17,6 +17,7 @@ use crate::exact_listing::ChangeTime;
 use crate::mail_folders::FoundNames;
 use crate::opened_file::IRREGULAR;
 use crate::shared_calls::{Lead, SharedCalls};
+use crate::system::are_flushed;
 use mail_store::Folder;
 use std::alloc::Global;
 use std::io::ErrorKind;
@@ -220,4 +221,12 @@ pub fn put_new<S: SharedCalls>(calls: &mut S, file: &S::Made, name: &str) -> Res
         let _ = calls.unlink(file);
     }
     answer
+}
+
+/// Flushes the names of a folder. False if its file system flushes no folders.
+pub fn flush_names<S: SharedCalls>(calls: &mut S, folder: Folder) -> Result<bool, Denial>
+    ensures { S.sound calls.new → S.sound calls.old
+        × Did (FlushesNamesIn folder (answered result)) (S.shared calls.old) (S.shared calls.new) }
+{
+    are_flushed(calls.fsync_folder(folder))
 }

@@ -7,7 +7,7 @@ ghost use Rattle.std.specs.{
   Prelude.{◌≡◌, ◌≢◌, ◌↔◌, Err, IfErr, IfOk, IsErrAnd, IsTrue, MatchOption, Ok, string_bytes},
 };
 ghost use Rattle.system_calls.specs.Denials.{IsAbout};
-ghost use Rattle.folder_store.specs.{HostAnswers.{TellsFlush, TellsOpened}, HostPaths.ArePartsOf, Marks.IsOurs};
+ghost use Rattle.folder_store.specs.{HostAnswers.{TellsFlush, TellsOpened, flushes_none}, HostPaths.ArePartsOf, Marks.IsOurs};
 
 use crate::process_mark::is_marked;
 use std::alloc::{AllocError, Global};
@@ -54,16 +54,24 @@ fn flush_folder<F: OpenFile>(folder: &OpenAt<F>) -> Result<bool, Denial> {
     are_flushed(opened_answer(folder, "fsync", folder.inner.sync_all()))
 }
 
+/// Whether a refused call says that the system flushes no folders, if it is fsync(2) of one.
+pub fn flushes_none(fault: &Denial) -> bool
+    ensures { result ≡ flushes_none (error_kind fault.now.error) }
+{
+    matches!(
+        fault.kind(),
+        ErrorKind::InvalidInput | ErrorKind::Unsupported
+    )
+}
+
 /// Whether names were flushed, by the system's answer.
-fn are_flushed(answer: Result<(), Denial>) -> Result<bool, Denial>
+pub fn are_flushed(answer: Result<(), Denial>) -> Result<bool, Denial>
     ensures { TellsFlush answer result }
 {
     match answer {
         Ok(()) => Ok(true),
-        Err(fault) => match fault.kind() {
-            ErrorKind::InvalidInput | ErrorKind::Unsupported => Ok(false),
-            _ => Err(fault),
-        },
+        Err(fault) if flushes_none(&fault) => Ok(false),
+        Err(fault) => Err(fault),
     }
 }
 

@@ -209,10 +209,10 @@ impl SharedCalls for MemoryShared {
         self.pass(file.path.as_str())
     }
 
-    fn flush_names(&mut self, folder: Folder) -> Result<bool, Denial> {
+    fn fsync_folder(&mut self, folder: Folder) -> Result<(), Denial> {
         self.begin(name_of(folder))?;
         self.folders.flush_names_now(folder)?;
-        Ok(true)
+        Ok(())
     }
 
     // It stands still: the folders may be listed again as long as the reader moves.
