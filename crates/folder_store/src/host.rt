@@ -29,7 +29,8 @@ use crate::kept_file::{
 use crate::new_file::{CallsNewFile, answer_of};
 use crate::opened_file::{IRREGULAR, LEADS_NOWHERE, open_found, read_all, read_edges, read_piece};
 use crate::process_mark::ProcessMark;
-use crate::system::{flushes_none, sweep};
+use crate::sweep::{Scratch, sweep};
+use crate::system::flushes_none;
 use crate::wanted::Wanted;
 use mail_store::{Edges, StoreFault};
 use std::alloc::{AllocError, Global};
@@ -278,7 +279,11 @@ impl<'a, R: Files + Clock + AllocGlobal + Clone + Drop> CallsFolder<'a, HostCall
     /// weren't changed for an hour. What can't be removed stays.
     pub fn sweep(&self, front: &str) {
         if let Ok(path) = self.paths.scratch_path() {
-            let _ = sweep(self.calls.system, path.as_str(), front);
+            let _ = sweep(&Scratch {
+                system: self.calls.system,
+                path: path.as_str(),
+                front,
+            });
         }
     }
 

@@ -25,6 +25,7 @@ mod opened_file;
 mod process_mark;
 mod shared_calls;
 mod shared_folders;
+mod sweep;
 mod system;
 mod tally;
 mod wanted;

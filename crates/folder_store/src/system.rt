@@ -1,27 +1,16 @@
-//! What the devices of the file system share: the parts of a path, and removing what killed runs left behind.
+//! What the devices of the file system share: the parts of a path, and what a flush or an open file answers.
 
-ghost use Rattle.std.specs.{
-  Fs.{IsFile, file_type},
-  IoError.error_kind,
-  Path.path_join,
-  Prelude.{◌≡◌, ◌≢◌, ◌↔◌, Err, IfErr, IfOk, IsErrAnd, IsTrue, MatchOption, Ok, string_bytes},
-};
+ghost use Rattle.std.specs.{IoError.error_kind, Path.path_join, Prelude.{◌≡◌, IfErr, IfOk, string_bytes}};
 ghost use Rattle.system_calls.specs.Denials.{IsAbout};
-ghost use Rattle.folder_store.specs.{HostAnswers.{TellsFlush, TellsOpened, flushes_none}, HostPaths.ArePartsOf, Marks.IsOurs};
+ghost use Rattle.folder_store.specs.{HostAnswers.{TellsFlush, TellsOpened, flushes_none}, HostPaths.ArePartsOf};
 
-use crate::process_mark::is_marked;
 use std::alloc::{AllocError, Global};
-use std::fs::{Metadata, OpenFile};
+use std::fs::OpenFile;
 use std::io::ErrorKind;
 use std::path::PathBuf;
 use std::rt::Files;
-use std::time::{Clock, SystemTime};
 use std::{fs, io};
 use system_calls::{Denial, OpenAt, System};
-
-/// How many seconds nothing is written to a file before it counts as left behind. A run at work waits
-/// for the server for three minutes at most.
-const LEFT_BEHIND_SECONDS: u64 = 3_600;
 
 /// How many links the system follows in a path, at most.
 const MOST_LINKS: u32 = 40;
@@ -123,70 +112,4 @@ fn joined(alloc: Global, folder: &str, path: &str) -> Result<String, AllocError>
     let mut whole = PathBuf::from_str(alloc, folder)?;
     whole.push(path)?;
     Ok(whole.into_string())
-}
-
-/// Whether this is a regular file that was changed last so long ago that no run is writing it.
-fn is_left_behind(file: &Metadata, now: SystemTime) -> bool
-    ensures { IsTrue result → IsFile (file_type file.now) }
-{
-    if !file.is_file() {
-        return false;
-    }
-    match file.modified() {
-        Ok(modified) => match now.duration_since(modified) {
-            Ok(age) => age.as_secs() >= LEFT_BEHIND_SECONDS,
-            Err(_) => false,
-        },
-        Err(_) => false,
-    }
-}
-
-/// An entry of a folder that is read. None if its name isn't UTF-8.
-fn entry_in<T, R: AllocGlobal>(
-    system: &System<'_, R>,
-    folder: &str,
-    entry: io::Result<T>,
-) -> Result<Option<T>, Denial>
-    ensures read { IfOk result (λ read. MatchOption read
-        (IsErrAnd entry (λ error. error_kind error ≡ ErrorKind.InvalidFilename)) (λ value. entry ≡ Ok value)) }
-    ensures denied { IfErr result (λ denial. (entry ≡ Err denial.error)
-        × (error_kind denial.error ≢ ErrorKind.InvalidFilename)) }
-{
-    match entry {
-        Err(fault) if fault.kind() == ErrorKind::InvalidFilename => Ok(None),
-        entry => Ok(Some(system.asked("read", folder, entry)?)),
-    }
-}
-
-/// Whether a name begins so, and ends in the mark of a process.
-fn is_ours(name: &str, front: &str) -> bool
-    ensures { IsTrue result ↔ IsOurs front.now name.now }
-{
-    name.starts_with(front) && is_marked(name)
-}
-
-/// Removes the files of a folder whose names begin with `front` and end in the mark of a process, and
-/// that were left behind. One that can't be looked at or removed stays. No message that was delivered
-/// has such a name, so none is lost if the folder is a link to one of messages.
-pub fn sweep<R: Files + Clock + AllocGlobal + Clone + Drop>(
-    system: &System<'_, R>,
-    folder: &str,
-    front: &str,
-) -> Result<(), Denial> {
-    let now = system.asked("clock_gettime", folder, SystemTime::now(system.rt))?;
-    let entries = fs::read_dir(system.rt, folder);
-    for entry in system.asked("open", folder, entries)? {
-        let Some(entry) = entry_in(system, folder, entry)? else {
-            continue;
-        };
-        if !is_ours(entry.file_name(), front) {
-            continue;
-        }
-        if let Ok(file) = system.lstat(entry.path().as_str()) {
-            if is_left_behind(&file, now) {
-                let _ = system.unlink(entry.path().as_str());
-            }
-        }
-    }
-    Ok(())
 }
