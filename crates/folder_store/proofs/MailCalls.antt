@@ -86,10 +86,6 @@ learns_on a b c first next = record {
   left = without_on first.gone next.gone (files_at a.entries) (files_at b.entries) (files_at c.entries) first.left next.left;
 }
 
--- what is learned by the calls so far
-abbrev pub Learned : {S : Type 0} → (S → Type 0) → (S → Directories) → S → S → Type 0
-Learned sound directories old new = sound new → sound old × Learns (directories old) (directories new)
-
 -- one more call
 pub learned : {P Q R D : Type 0} (a b c : Directories) → (Q → P × Learns a b) → (R → Q × D) → (D → Learns b c) → R → P × Learns a c
 learned a b c before call each s = let t = call s in let led = before t.0 in (led.0, learns_on a b c led.1 (each t.1))

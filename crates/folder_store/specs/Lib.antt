@@ -15,6 +15,7 @@ pub mod Marks
 pub mod NewDevices
 pub mod PowerLoss
 pub mod SharedCalls
+pub mod Sound
 pub mod Sweep
 pub mod Under
 pub mod Wanted

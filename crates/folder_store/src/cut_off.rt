@@ -1,7 +1,11 @@
 //! What is cut off from a file, kept in a file of its own.
 
 ghost use Rattle.std.specs.Prelude.{◌≡◌, ◌≤◌, ◌⊎◌, ◌↔◌, length, IfOk, IsTrue, Ok, OnOk, false, not, true};
-ghost use Rattle.folder_store.specs.{CutOff.{BeginsWith, HasAllKept, IsKeptDurable, has_others}, PowerLoss.disk_at};
+ghost use Rattle.folder_store.specs.{
+  CutOff.{BeginsWith, HasAllKept, IsKeptDurable, has_others},
+  PowerLoss.disk_at,
+  Sound.WhereFilesSound,
+};
 ghost use Rattle.mail_store.specs.DiskCalls.{AppendsDisk, CutsDisk};
 
 use crate::durable_file::{Appending, append_in, cut_flushed, flush_both, replace_flushed};
@@ -114,7 +118,7 @@ impl<'a, F: FileFolder + Drop> CutOff<'a, F> {
         end: u64,
     ) -> Result<u64, StoreFault>
         ensures same { self.new ≡ record self.old { folder = self.new.folder } }
-        ensures reads { F.sound other.new → F.sound other.old × (F.directory other.new ≡ F.directory other.old) }
+        ensures reads { WhereFilesSound F.sound F.directory other.old other.new (λ old new. new ≡ old) }
     {
         let size = self.make()?;
         let shared = size.min(end.saturating_sub(start));
@@ -138,7 +142,7 @@ impl<'a, F: FileFolder + Drop> CutOff<'a, F> {
     fn copy(&mut self, other: &mut F, name: &str, from: u64, end: u64) -> Result<u64, StoreFault>
         ensures whole { IfOk result (λ at. end ≤ at) }
         ensures same { self.new ≡ record self.old { folder = self.new.folder } }
-        ensures reads { F.sound other.new → F.sound other.old × (F.directory other.new ≡ F.directory other.old) }
+        ensures reads { WhereFilesSound F.sound F.directory other.old other.new (λ old new. new ≡ old) }
     {
         let mut at = from;
         let mut buf = [0u8; PIECE];
@@ -165,7 +169,7 @@ impl<'a, F: FileFolder + Drop> CutOff<'a, F> {
         ensures keeps { OnOk result (has_others self.new ≡ true) }
         ensures unknown { self.new.are_ours ≡ false }
         ensures durable { OnOk result (IsKeptDurable F.sound F.directory self.new) }
-        ensures reads { F.sound other.new → F.sound other.old × (F.directory other.new ≡ F.directory other.old) }
+        ensures reads { WhereFilesSound F.sound F.directory other.old other.new (λ old new. new ≡ old) }
     {
         self.may_be_there = true;
         self.are_ours = false;
@@ -216,9 +220,8 @@ pub fn append_noting<F: FileFolder + Drop>(
     appending: Appending,
     cut_off: &mut Option<CutOff<'_, F>>,
 ) -> Result<(), StoreFault>
-    ensures { F.sound folder.new → F.sound folder.old
-        × AppendsDisk (disk_at (F.directory folder.old) name.now) bytes.now result
-        (disk_at (F.directory folder.new) name.now) }
+    ensures { WhereFilesSound F.sound (λ f. disk_at (F.directory f) name.now) folder.old folder.new
+        (λ old new. AppendsDisk old bytes.now result new) }
 {
     let answer = append_in(folder, name, bytes, appending);
     if let Some(cut_off) = cut_off {
@@ -235,8 +238,8 @@ pub fn cut_keeping<F: FileFolder + Drop>(
     len: u64,
     cut_off: &mut Option<CutOff<'_, F>>,
 ) -> Result<(), StoreFault>
-    ensures { F.sound folder.new → F.sound folder.old
-        × CutsDisk (disk_at (F.directory folder.old) name.now) len result (disk_at (F.directory folder.new) name.now) }
+    ensures { WhereFilesSound F.sound (λ f. disk_at (F.directory f) name.now) folder.old folder.new
+        (λ old new. CutsDisk old len result new) }
 {
     if let Some(cut_off) = cut_off {
         if !cut_off.is_refused {

@@ -1,7 +1,7 @@
 //! What the devices do to a folder in several calls.
 
 ghost use Rattle.std.specs.Prelude.{◌≡◌, ◌-◌, ◌%◌, ◌++◌, true, OnOk};
-ghost use Rattle.folder_store.specs.PowerLoss.{disk_at};
+ghost use Rattle.folder_store.specs.{PowerLoss.disk_at, Sound.WhereFilesSound};
 ghost use Rattle.mail_store.specs.DiskCalls.{AppendsDisk, CutsDisk, FlushesBoth, ReplacesDisk};
 
 use crate::file_folder::{FileFolder, NewFile};
@@ -22,9 +22,8 @@ pub enum Appending {
 
 /// Appends bytes to a file, and flushes them.
 fn append_flushed<F: FileFolder>(folder: &mut F, name: &str, bytes: &[u8]) -> Result<(), StoreFault>
-    ensures { F.sound folder.new → F.sound folder.old
-        × AppendsDisk (disk_at (F.directory folder.old) name.now) bytes.now result
-        (disk_at (F.directory folder.new) name.now) }
+    ensures { WhereFilesSound F.sound (λ f. disk_at (F.directory f) name.now) folder.old folder.new
+        (λ old new. AppendsDisk old bytes.now result new) }
 {
     folder.append(name, bytes)?;
     folder.flush(name)
@@ -39,9 +38,8 @@ fn room_after(size: u64) -> usize
 
 /// The same, but flushes at each border of 512 octets of the file before it writes more.
 fn append_blocks<F: FileFolder>(folder: &mut F, name: &str, bytes: &[u8]) -> Result<(), StoreFault>
-    ensures { F.sound folder.new → F.sound folder.old
-        × AppendsDisk (disk_at (F.directory folder.old) name.now) bytes.now result
-        (disk_at (F.directory folder.new) name.now) }
+    ensures { WhereFilesSound F.sound (λ f. disk_at (F.directory f) name.now) folder.old folder.new
+        (λ old new. AppendsDisk old bytes.now result new) }
 {
     let size = folder.size(name)?;
     let (front, mut rest) = bytes.split_at(room_after(size).min(bytes.len()));
@@ -61,9 +59,8 @@ pub fn append_in<F: FileFolder>(
     bytes: &[u8],
     appending: Appending,
 ) -> Result<(), StoreFault>
-    ensures { F.sound folder.new → F.sound folder.old
-        × AppendsDisk (disk_at (F.directory folder.old) name.now) bytes.now result
-        (disk_at (F.directory folder.new) name.now) }
+    ensures { WhereFilesSound F.sound (λ f. disk_at (F.directory f) name.now) folder.old folder.new
+        (λ old new. AppendsDisk old bytes.now result new) }
 {
     match appending {
         Appending::AtOnce => append_flushed(folder, name, bytes),
@@ -73,8 +70,8 @@ pub fn append_in<F: FileFolder>(
 
 /// Cuts a file to its first bytes, and flushes it.
 pub fn cut_flushed<F: FileFolder>(folder: &mut F, name: &str, len: u64) -> Result<(), StoreFault>
-    ensures { F.sound folder.new → F.sound folder.old
-        × CutsDisk (disk_at (F.directory folder.old) name.now) len result (disk_at (F.directory folder.new) name.now) }
+    ensures { WhereFilesSound F.sound (λ f. disk_at (F.directory f) name.now) folder.old folder.new
+        (λ old new. CutsDisk old len result new) }
 {
     folder.cut_to(name, len)?;
     folder.flush(name)
@@ -82,8 +79,8 @@ pub fn cut_flushed<F: FileFolder>(folder: &mut F, name: &str, len: u64) -> Resul
 
 /// Appends bytes to a file that was made, and flushes it.
 fn write_flushed<N: NewFile>(file: &mut N, bytes: &[u8]) -> Result<(), StoreFault>
-    ensures { N.sound file.new → N.sound file.old × OnOk result (N.made file.new
-        ≡ record { content = (N.made file.old).content ++ bytes.now; is_flushed = true }) }
+    ensures { WhereFilesSound N.sound N.made file.old file.new
+        (λ old new. OnOk result (new ≡ record { content = old.content ++ bytes.now; is_flushed = true })) }
 {
     file.write(bytes)?;
     file.flush()
@@ -96,9 +93,8 @@ pub fn replace_flushed<F: FileFolder>(
     name: &str,
     bytes: &[u8],
 ) -> Result<bool, StoreFault>
-    ensures { F.sound folder.new → F.sound folder.old
-        × ReplacesDisk (disk_at (F.directory folder.old) name.now) bytes.now result
-        (disk_at (F.directory folder.new) name.now) }
+    ensures { WhereFilesSound F.sound (λ f. disk_at (F.directory f) name.now) folder.old folder.new
+        (λ old new. ReplacesDisk old bytes.now result new) }
 {
     let mut file = folder.make(name)?;
     if let Err(fault) = write_flushed(&mut file, bytes) {
@@ -111,8 +107,8 @@ pub fn replace_flushed<F: FileFolder>(
 
 /// Flushes a file and the names. False if the file system flushes no folders.
 pub fn flush_both<F: FileFolder>(folder: &mut F, name: &str) -> Result<bool, StoreFault>
-    ensures { F.sound folder.new → F.sound folder.old
-        × FlushesBoth (disk_at (F.directory folder.old) name.now) result (disk_at (F.directory folder.new) name.now) }
+    ensures { WhereFilesSound F.sound (λ f. disk_at (F.directory f) name.now) folder.old folder.new
+        (λ old new. FlushesBoth old result new) }
 {
     folder.flush(name)?;
     folder.flush_names()

@@ -2,7 +2,10 @@
 
 ghost use Rattle.std.specs.Prelude.{IfErr, IfSome};
 ghost use Rattle.mail_store.specs.{Fault.IsDeviceFault, Held.asks};
-ghost use Rattle.folder_store.specs.MailCalls.{ListedBoth, PutsDurably, TellsOfBoth, TellsOne, ToldBoth};
+ghost use Rattle.folder_store.specs.{
+  MailCalls.{ListedBoth, PutsDurably, TellsOfBoth, TellsOne, ToldBoth},
+  Sound.WhereFilesSound,
+};
 
 use crate::file_folder::NewFile;
 use crate::mail_folders::{FoundNames, MailFolders, Sought};
@@ -19,9 +22,8 @@ fn look_at_both<F: MailFolders>(
     sought: Sought<'_>,
     times: u32,
 ) -> Result<Option<(Vec<String>, Vec<String>)>, StoreFault>
-    ensures looks { F.sound folders.new → F.sound folders.old
-        × TellsOfBoth (F.directories folders.old) result (F.directories folders.new)
-        (λ names d. IfSome names (λ names. ListedBoth sought.entry names d)) }
+    ensures looks { WhereFilesSound F.sound F.directories folders.old folders.new
+        (λ old new. TellsOfBoth old result new (λ names d. IfSome names (λ names. ListedBoth sought.entry names d))) }
     ensures fault { IfErr result IsDeviceFault }
 {
     let in_new = folders.list(Folder::New, sought)?;
@@ -38,8 +40,8 @@ pub fn list_both<F: MailFolders>(
     folders: &mut F,
     sought: Sought<'_>,
 ) -> Result<(Vec<String>, Vec<String>), StoreFault>
-    ensures lists { F.sound folders.new → F.sound folders.old
-        × TellsOfBoth (F.directories folders.old) result (F.directories folders.new) (ListedBoth sought.entry) }
+    ensures lists { WhereFilesSound F.sound F.directories folders.old folders.new
+        (λ old new. TellsOfBoth old result new (ListedBoth sought.entry)) }
     ensures fault { IfErr result IsDeviceFault }
 {
     for times in 0..MOST_LISTINGS {
@@ -56,9 +58,9 @@ pub fn told_names<F: MailFolders>(
     folders: &mut F,
     asked: Asked<'_>,
 ) -> Result<FoundNames, StoreFault>
-    ensures tells { F.sound folders.new → F.sound folders.old
-        × TellsOfBoth (F.directories folders.old) result (F.directories folders.new)
-        (λ found. ToldBoth (asks asked.entry) found.files.items found.odd.items) }
+    ensures tells { WhereFilesSound F.sound F.directories folders.old folders.new
+        (λ old new. TellsOfBoth old result new
+        (λ found. ToldBoth (asks asked.entry) found.files.items found.odd.items)) }
     ensures fault { IfErr result IsDeviceFault }
 {
     let (in_new, in_cur) = list_both(folders, Sought::Items(asked))?;
@@ -72,8 +74,8 @@ pub fn told_names_of<F: MailFolders>(
     folders: &mut F,
     folder: Folder,
 ) -> Result<Vec<String>, StoreFault>
-    ensures tells { F.sound folders.new → F.sound folders.old
-        × TellsOne (F.directories folders.old) folder result (F.directories folders.new) }
+    ensures tells { WhereFilesSound F.sound F.directories folders.old folders.new
+        (λ old new. TellsOne old folder result new) }
     ensures fault { IfErr result IsDeviceFault }
 {
     let names = folders.list(folder, Sought::All)?;
@@ -88,9 +90,8 @@ pub fn put_durably<F: MailFolders>(
     file: F::File,
     name: &str,
 ) -> Result<bool, StoreFault>
-    ensures { F.sound folders.new → F.sound folders.old × F.File.sound file
-        × PutsDurably (F.directories folders.old) (F.File.made file).content name.now result
-        (F.directories folders.new) }
+    ensures { WhereFilesSound F.sound F.directories folders.old folders.new
+        (λ old new. F.File.sound file × PutsDurably old (F.File.made file).content name.now result new) }
 {
     let mut file = file;
     if let Err(fault) = file.flush() {

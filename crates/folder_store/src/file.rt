@@ -10,6 +10,7 @@ ghost use Rattle.folder_store.specs.{
   HostPaths.IsFileAt,
   NewDevices.{LeftFilesStand, NewFilesKeepBytes},
   PowerLoss.disk_at,
+  Sound.WhereFilesSound,
 };
 
 use crate::cut_off::{CutOff, append_noting, cut_keeping};
@@ -93,9 +94,8 @@ impl<'a, F: FileFolder + Drop> HostFile<'a, F> {
     // Flushes the file and its name, unless they were flushed before.
     #[tactic(auto, using(mail_store::proofs::DiskLemmas::flushed_settled))]
     fn secure(&mut self) -> Result<(), StoreFault>
-        ensures flushes { F.sound self.new.folder → F.sound self.old.folder
-            × FlushesBoth (disk_at (F.directory self.old.folder) self.old.name.now) result
-            (disk_at (F.directory self.new.folder) self.new.name.now) }
+        ensures flushes { WhereFilesSound (λ f. F.sound f.folder) (λ f. disk_at (F.directory f.folder) f.name.now)
+            self.old self.new (λ old new. FlushesBoth old result new) }
         ensures others { (self.new.name ≡ self.old.name) × (self.new.failures ≡ self.old.failures) }
     {
         if self.is_flushed {

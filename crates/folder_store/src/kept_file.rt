@@ -7,6 +7,7 @@ ghost use Rattle.folder_store.specs.{
   Handles.FlushesTargets,
   HostPaths.{folder_of, path_named},
   Kept.{KeptHolds, OpensKept},
+  Sound.{WhereFilesSound, WhereFilesStay},
   Watch.{AppendsWatched, ChecksWatched, CutsWatched, NotesWatched},
 };
 
@@ -26,8 +27,8 @@ pub fn make_marked<C: FileCalls>(
     paths: &HostPaths<'_>,
     name: &str,
 ) -> Result<C::Made, Denial>
-    ensures { C.sound calls.new → C.sound calls.old × (C.tree calls.new ≡ C.tree calls.old)
-        × (IfOk result C.Made.sound → Creates C.Made.made (C.tree calls.old) result) }
+    ensures { WhereFilesStay C.sound C.tree calls.old calls.new
+        (λ tree. IfOk result C.Made.sound → Creates C.Made.made tree result) }
 {
     let path = paths.made_path(name)?;
     calls.create(path.as_str())
@@ -40,8 +41,9 @@ fn rename_made<C: FileCalls>(
     file: &C::Made,
     name: &str,
 ) -> Result<(), Denial>
-    ensures { C.sound calls.new → C.sound calls.old × OnOk result (C.Made.sound file.now)
-        × Renames (C.tree calls.old) (C.Made.made file.now) (path_named paths.now name.now) result (C.tree calls.new) }
+    ensures { WhereFilesSound C.sound C.tree calls.old calls.new
+        (λ old new. OnOk result (C.Made.sound file.now)
+        × Renames old (C.Made.made file.now) (path_named paths.now name.now) result new) }
 {
     let path = paths.path_of(name)?;
     calls.rename(file, path.as_str())
@@ -54,8 +56,9 @@ pub fn put_made<C: FileCalls>(
     file: &C::Made,
     name: &str,
 ) -> Result<(), Denial>
-    ensures { C.sound calls.new → C.sound calls.old × C.Made.sound file.now
-        × Renames (C.tree calls.old) (C.Made.made file.now) (path_named paths.now name.now) result (C.tree calls.new) }
+    ensures { WhereFilesSound C.sound C.tree calls.old calls.new
+        (λ old new. C.Made.sound file.now
+        × Renames old (C.Made.made file.now) (path_named paths.now name.now) result new) }
 {
     match rename_made(calls, paths, file, name) {
         Ok(()) => Ok(()),
@@ -73,9 +76,9 @@ fn handle_of<C: FileCalls>(
     handles: &mut Handles<C::File>,
     name: &str,
 ) -> Result<Changed<C::File>, Denial>
-    requires { KeptHolds (C.sound calls.old) C.File.opened (C.tree calls.old) (folder_of paths.now) handles.old }
-    ensures opens { C.sound calls.new → C.sound calls.old × (C.tree calls.new ≡ C.tree calls.old)
-        × OpensKept C.File.opened (C.tree calls.old) paths.now name.now result }
+    requires { KeptHolds C.FileCalls C.File.opened calls.old (folder_of paths.now) handles.old }
+    ensures opens { WhereFilesStay C.sound C.tree calls.old calls.new
+        (λ tree. OpensKept C.File.opened tree paths.now name.now result) }
     ensures others { (handles.new.changed ≡ None) × (handles.new.names ≡ handles.old.names)
         × (handles.new.watch ≡ handles.old.watch) }
 {
@@ -95,11 +98,10 @@ fn measure_kept<C: FileCalls>(
     handles: &mut Handles<C::File>,
     name: &str,
 ) -> Result<u64, Denial>
-    requires { KeptHolds (C.sound calls.old) C.File.opened (C.tree calls.old) (folder_of paths.now) handles.old }
-    ensures tells { C.sound calls.new → C.sound calls.old × (C.tree calls.new ≡ C.tree calls.old)
-        × TellsFileSize (C.tree calls.old).directory (path_named paths.now name.now) (answered result)
-        (C.tree calls.old).directory }
-    ensures kept { KeptHolds (C.sound calls.new) C.File.opened (C.tree calls.new) (folder_of paths.now) handles.new }
+    requires { KeptHolds C.FileCalls C.File.opened calls.old (folder_of paths.now) handles.old }
+    ensures tells { WhereFilesStay C.sound C.tree calls.old calls.new
+        (λ tree. TellsFileSize tree.directory (path_named paths.now name.now) (answered result) tree.directory) }
+    ensures kept { KeptHolds C.FileCalls C.File.opened calls.new (folder_of paths.now) handles.new }
 {
     let changed = handle_of(calls, paths, handles, name)?;
     let found = calls.fstat(&changed.file)?;
@@ -117,11 +119,10 @@ pub fn size_of<C: FileCalls>(
     handles: &mut Handles<C::File>,
     name: &str,
 ) -> Result<u64, Denial>
-    requires { KeptHolds (C.sound calls.old) C.File.opened (C.tree calls.old) (folder_of paths.now) handles.old }
-    ensures tells { C.sound calls.new → C.sound calls.old × (C.tree calls.new ≡ C.tree calls.old)
-        × TellsFileSize (C.tree calls.old).directory (path_named paths.now name.now) (answered result)
-        (C.tree calls.old).directory }
-    ensures kept { KeptHolds (C.sound calls.new) C.File.opened (C.tree calls.new) (folder_of paths.now) handles.new }
+    requires { KeptHolds C.FileCalls C.File.opened calls.old (folder_of paths.now) handles.old }
+    ensures tells { WhereFilesStay C.sound C.tree calls.old calls.new
+        (λ tree. TellsFileSize tree.directory (path_named paths.now name.now) (answered result) tree.directory) }
+    ensures kept { KeptHolds C.FileCalls C.File.opened calls.new (folder_of paths.now) handles.new }
 {
     if handles.keeps_handle {
         return measure_kept(calls, paths, handles, name);
@@ -136,8 +137,9 @@ fn append_some<C: FileCalls>(
     bytes: &[u8],
 ) -> Result<Option<usize>, Denial>
     ensures within { IfOk result (λ wrote. IfSome wrote (λ n. n ≤ length bytes.now)) }
-    ensures appends { C.sound calls.new → C.sound calls.old × (C.File.opened file.new ≡ C.File.opened file.old)
-        × AppendsSome (C.tree calls.old) (C.File.opened file.old) bytes.now result (C.tree calls.new) }
+    ensures appends { WhereFilesSound C.sound C.tree calls.old calls.new
+        (λ old new. (C.File.opened file.new ≡ C.File.opened file.old)
+        × AppendsSome old (C.File.opened file.old) bytes.now result new) }
 {
     match calls.write(file, bytes) {
         Ok(count) => {
@@ -161,8 +163,9 @@ fn append_counted<C: FileCalls>(
     file: &mut C::File,
     bytes: &[u8],
 ) -> (u64, Result<(), Denial>)
-    ensures appends { C.sound calls.new → C.sound calls.old × (C.File.opened file.new ≡ C.File.opened file.old)
-        × AppendsOpened (C.tree calls.old) (C.File.opened file.old) bytes.now result.1 (C.tree calls.new) }
+    ensures appends { WhereFilesSound C.sound C.tree calls.old calls.new
+        (λ old new. (C.File.opened file.new ≡ C.File.opened file.old)
+        × AppendsOpened old (C.File.opened file.old) bytes.now result.1 new) }
     ensures counts { OnOk result.1 (result.0 ≡ length bytes.now) }
 {
     let mut rest = bytes;
@@ -199,7 +202,7 @@ fn check_watched<C: FileCalls>(
     watch: &mut Watch,
     changed: &Changed<C::File>,
 ) -> Result<(), Denial>
-    ensures same { C.sound calls.new → C.sound calls.old × (C.tree calls.new ≡ C.tree calls.old) }
+    ensures same { WhereFilesSound C.sound C.tree calls.old calls.new (λ old new. new ≡ old) }
     ensures checks { ChecksWatched (C.File.told changed.now.file) watch.old result watch.new }
 {
     if watch.watches() {
@@ -217,7 +220,7 @@ fn note_watched<C: FileCalls>(
     changed: &Changed<C::File>,
     more: u64,
 ) -> Result<(), Denial>
-    ensures same { C.sound calls.new → C.sound calls.old × (C.tree calls.new ≡ C.tree calls.old) }
+    ensures same { WhereFilesSound C.sound C.tree calls.old calls.new (λ old new. new ≡ old) }
     ensures notes { NotesWatched (C.File.told changed.now.file) watch.old more result watch.new }
 {
     if watch.is_set() {
@@ -235,9 +238,10 @@ fn append_watched<C: FileCalls>(
     changed: &mut Changed<C::File>,
     bytes: &[u8],
 ) -> Result<(), Denial>
-    ensures appends { C.sound calls.new → C.sound calls.old
-        × (C.File.opened changed.new.file ≡ C.File.opened changed.old.file) × (changed.new.name ≡ changed.old.name)
-        × AppendsOpened (C.tree calls.old) (C.File.opened changed.old.file) bytes.now result (C.tree calls.new) }
+    ensures appends { WhereFilesSound C.sound C.tree calls.old calls.new
+        (λ old new. (C.File.opened changed.new.file ≡ C.File.opened changed.old.file)
+        × (changed.new.name ≡ changed.old.name)
+        × AppendsOpened old (C.File.opened changed.old.file) bytes.now result new) }
     ensures watches { AppendsWatched C.File.told watch.old (length bytes.now) result watch.new }
 {
     check_watched(calls, paths, watch, changed)?;
@@ -256,12 +260,11 @@ pub fn append_kept<C: FileCalls>(
     name: &str,
     bytes: &[u8],
 ) -> Result<(), Denial>
-    requires { KeptHolds (C.sound calls.old) C.File.opened (C.tree calls.old) (folder_of paths.now) handles.old }
+    requires { KeptHolds C.FileCalls C.File.opened calls.old (folder_of paths.now) handles.old }
     ensures watches { AppendsWatched C.File.told handles.old.watch (length bytes.now) result handles.new.watch }
-    ensures appends { C.sound calls.new → C.sound calls.old
-        × AppendsTo (C.tree calls.old).directory (path_named paths.now name.now) bytes.now (answered result)
-        (C.tree calls.new).directory }
-    ensures kept { KeptHolds (C.sound calls.new) C.File.opened (C.tree calls.new) (folder_of paths.now) handles.new }
+    ensures appends { WhereFilesSound C.sound C.tree calls.old calls.new
+        (λ old new. AppendsTo old.directory (path_named paths.now name.now) bytes.now (answered result) new.directory) }
+    ensures kept { KeptHolds C.FileCalls C.File.opened calls.new (folder_of paths.now) handles.new }
 {
     let mut changed = handle_of(calls, paths, handles, name)?;
     let answer = append_watched(calls, paths, &mut handles.watch, &mut changed, bytes);
@@ -277,8 +280,8 @@ fn cut_watched<C: FileCalls>(
     changed: &Changed<C::File>,
     len: u64,
 ) -> Result<(), Denial>
-    ensures cuts { C.sound calls.new → C.sound calls.old
-        × Truncates (C.tree calls.old) (C.File.opened changed.now.file) len result (C.tree calls.new) }
+    ensures cuts { WhereFilesSound C.sound C.tree calls.old calls.new
+        (λ old new. Truncates old (C.File.opened changed.now.file) len result new) }
     ensures watches { CutsWatched C.File.told watch.old result watch.new }
 {
     let found = calls.fstat(&changed.file)?;
@@ -302,12 +305,11 @@ pub fn cut_kept<C: FileCalls>(
     name: &str,
     len: u64,
 ) -> Result<(), Denial>
-    requires { KeptHolds (C.sound calls.old) C.File.opened (C.tree calls.old) (folder_of paths.now) handles.old }
+    requires { KeptHolds C.FileCalls C.File.opened calls.old (folder_of paths.now) handles.old }
     ensures watches { CutsWatched C.File.told handles.old.watch result handles.new.watch }
-    ensures cuts { C.sound calls.new → C.sound calls.old
-        × CutsTo (C.tree calls.old).directory (path_named paths.now name.now) len (answered result)
-        (C.tree calls.new).directory }
-    ensures kept { KeptHolds (C.sound calls.new) C.File.opened (C.tree calls.new) (folder_of paths.now) handles.new }
+    ensures cuts { WhereFilesSound C.sound C.tree calls.old calls.new
+        (λ old new. CutsTo old.directory (path_named paths.now name.now) len (answered result) new.directory) }
+    ensures kept { KeptHolds C.FileCalls C.File.opened calls.new (folder_of paths.now) handles.new }
 {
     let changed = handle_of(calls, paths, handles, name)?;
     let answer = cut_watched(calls, paths, &mut handles.watch, &changed, len);
@@ -322,8 +324,8 @@ fn flush_watched<C: FileCalls>(
     watch: &mut Watch,
     changed: &Changed<C::File>,
 ) -> Result<(), Denial>
-    ensures flushes { C.sound calls.new → C.sound calls.old
-        × Syncs (C.tree calls.old) (C.File.opened changed.now.file) result (C.tree calls.new) }
+    ensures flushes { WhereFilesSound C.sound C.tree calls.old calls.new
+        (λ old new. Syncs old (C.File.opened changed.now.file) result new) }
     ensures watches { NotesWatched (C.File.told changed.now.file) watch.old 0 result watch.new }
 {
     match calls.fsync(&changed.file) {
@@ -356,9 +358,8 @@ fn flush_anew<C: FileCalls>(
     handles: &mut Handles<C::File>,
     name: &str,
 ) -> Result<(), Denial>
-    ensures flushes { C.sound calls.new → C.sound calls.old
-        × FlushesFile (C.tree calls.old).directory (path_named paths.now name.now) (answered result)
-        (C.tree calls.new).directory }
+    ensures flushes { WhereFilesSound C.sound C.tree calls.old calls.new
+        (λ old new. FlushesFile old.directory (path_named paths.now name.now) (answered result) new.directory) }
     ensures links { OnOk result (FlushesTargets (C.flushed_targets calls.new) (path_named paths.now name.now)
         handles.old.unflushed handles.new.unflushed) }
     ensures others { (handles.new.changed ≡ handles.old.changed) × (handles.new.names ≡ handles.old.names) }
@@ -378,11 +379,10 @@ pub fn flush_kept<C: FileCalls>(
     handles: &mut Handles<C::File>,
     name: &str,
 ) -> Result<(), Denial>
-    requires { KeptHolds (C.sound calls.old) C.File.opened (C.tree calls.old) (folder_of paths.now) handles.old }
-    ensures flushes { C.sound calls.new → C.sound calls.old
-        × FlushesFile (C.tree calls.old).directory (path_named paths.now name.now) (answered result)
-        (C.tree calls.new).directory }
-    ensures kept { KeptHolds (C.sound calls.new) C.File.opened (C.tree calls.new) (folder_of paths.now) handles.new }
+    requires { KeptHolds C.FileCalls C.File.opened calls.old (folder_of paths.now) handles.old }
+    ensures flushes { WhereFilesSound C.sound C.tree calls.old calls.new
+        (λ old new. FlushesFile old.directory (path_named paths.now name.now) (answered result) new.directory) }
+    ensures kept { KeptHolds C.FileCalls C.File.opened calls.new (folder_of paths.now) handles.new }
 {
     match handles.take_changed(name) {
         Some(changed) => {
@@ -396,8 +396,8 @@ pub fn flush_kept<C: FileCalls>(
 
 /// Flushes the names of an open folder. False if the system flushes no folders, which is no fault.
 fn flush_folder<C: FileCalls>(calls: &mut C, folder: &C::File) -> Result<bool, Denial>
-    ensures { C.sound calls.new → C.sound calls.old
-        × FlushesFolder (C.tree calls.old) (C.File.opened folder.now).path result (C.tree calls.new) }
+    ensures { WhereFilesSound C.sound C.tree calls.old calls.new
+        (λ old new. FlushesFolder old (C.File.opened folder.now).path result new) }
 {
     match calls.fsync_folder(folder) {
         Ok(()) => Ok(true),
@@ -415,9 +415,9 @@ pub fn names_of<C: FileCalls>(
     paths: &HostPaths<'_>,
     handles: &mut Handles<C::File>,
 ) -> Result<Names<C::File>, Denial>
-    requires { KeptHolds (C.sound calls.old) C.File.opened (C.tree calls.old) (folder_of paths.now) handles.old }
-    ensures opens { C.sound calls.new → C.sound calls.old × (C.tree calls.new ≡ C.tree calls.old)
-        × IfOk result (λ names. (C.File.opened names.folder).path ≡ folder_of paths.now) }
+    requires { KeptHolds C.FileCalls C.File.opened calls.old (folder_of paths.now) handles.old }
+    ensures opens { WhereFilesStay C.sound C.tree calls.old calls.new
+        (λ _. IfOk result (λ names. (C.File.opened names.folder).path ≡ folder_of paths.now)) }
     ensures others { (handles.new.changed ≡ handles.old.changed) × (handles.new.names ≡ None) }
 {
     let kept = handles.names.take();
@@ -443,10 +443,10 @@ pub fn flush_names<C: FileCalls>(
     paths: &HostPaths<'_>,
     handles: &mut Handles<C::File>,
 ) -> Result<bool, Denial>
-    requires { KeptHolds (C.sound calls.old) C.File.opened (C.tree calls.old) (folder_of paths.now) handles.old }
-    ensures flushes { C.sound calls.new → C.sound calls.old
-        × FlushesFolder (C.tree calls.old) (folder_of paths.now) result (C.tree calls.new) }
-    ensures kept { KeptHolds (C.sound calls.new) C.File.opened (C.tree calls.new) (folder_of paths.now) handles.new }
+    requires { KeptHolds C.FileCalls C.File.opened calls.old (folder_of paths.now) handles.old }
+    ensures flushes { WhereFilesSound C.sound C.tree calls.old calls.new
+        (λ old new. FlushesFolder old (folder_of paths.now) result new) }
+    ensures kept { KeptHolds C.FileCalls C.File.opened calls.new (folder_of paths.now) handles.new }
 {
     let names = names_of(calls, paths, handles)?;
     let is_flushed = flush_folder(calls, &names.folder)?;

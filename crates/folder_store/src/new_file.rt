@@ -2,7 +2,7 @@
 
 ghost use Rattle.std.specs.{Prelude.{◌≡◌, ◌≤◌, ◌++◌, false, length, IfErr, IfOk, IfSome, OnOk}, IoError.error_kind};
 ghost use Rattle.mail_store.specs.Fault.{IsDeviceFault};
-ghost use Rattle.folder_store.specs.Calls.{answered, WritesSome};
+ghost use Rattle.folder_store.specs.{Calls.{answered, WritesSome}, Sound.WhereFilesSound};
 
 use crate::calls::MadeHandle;
 use crate::file_folder::NewFile;
@@ -36,8 +36,8 @@ pub fn answer_of<T>(refusals: &Refusals, answer: Result<T, Denial>) -> Result<T,
 /// Writes some of the bytes, and returns how many; None if the call was interrupted.
 fn write_some<M: MadeHandle>(file: &mut M, bytes: &[u8]) -> Result<Option<usize>, Denial>
     ensures within { IfOk result (λ wrote. IfSome wrote (λ n. n ≤ length bytes.now)) }
-    ensures writes { M.sound file.new → M.sound file.old
-        × IfOk result (WritesSome (M.made file.old) bytes.now (M.made file.new)) }
+    ensures writes { WhereFilesSound M.sound M.made file.old file.new
+        (λ old new. IfOk result (WritesSome old bytes.now new)) }
 {
     match file.write(bytes) {
         Ok(0) if !bytes.is_empty() => Err(file.denied(no_octet())),
@@ -49,8 +49,8 @@ fn write_some<M: MadeHandle>(file: &mut M, bytes: &[u8]) -> Result<Option<usize>
 
 /// Writes all of the bytes, in as many calls as it takes.
 fn write_all<M: MadeHandle>(file: &mut M, bytes: &[u8]) -> Result<(), Denial>
-    ensures { M.sound file.new → M.sound file.old × OnOk result (M.made file.new
-        ≡ record { content = (M.made file.old).content ++ bytes.now; is_flushed = false }) }
+    ensures { WhereFilesSound M.sound M.made file.old file.new
+        (λ old new. OnOk result (new ≡ record { content = old.content ++ bytes.now; is_flushed = false })) }
 {
     let mut rest = bytes;
     for _ in 0..u64::MAX {

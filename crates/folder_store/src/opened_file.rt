@@ -16,6 +16,7 @@ ghost use Rattle.folder_store.specs.{
   Calls.answered,
   FileFolder.{MeasuresFile, ReadsFile, ReadsPiece, TellsFileSize},
   HostPaths.path_named,
+  Sound.WhereFilesStay,
   Watch.ReadsWatched,
 };
 
@@ -40,8 +41,8 @@ pub fn open_found<C: FileCalls>(
     name: &str,
     access: Access,
 ) -> Result<Option<C::File>, Denial>
-    ensures { C.sound calls.new → C.sound calls.old × (C.tree calls.new ≡ C.tree calls.old)
-        × OpensFound C.File.opened (C.tree calls.old) (path_named paths.now name.now) result }
+    ensures { WhereFilesStay C.sound C.tree calls.old calls.new
+        (λ tree. OpensFound C.File.opened tree (path_named paths.now name.now) result) }
 {
     let path = paths.path_of(name)?;
     match calls.stat(path.as_str()) {
@@ -69,8 +70,8 @@ fn folder_fault<C: FileCalls>(
     name: &str,
     access: Access,
 ) -> Result<C::File, Denial>
-    ensures { C.sound calls.new → C.sound calls.old × (C.tree calls.new ≡ C.tree calls.old)
-        × OpensRegular C.File.opened (C.tree calls.old) (path_named paths.now name.now) result }
+    ensures { WhereFilesStay C.sound C.tree calls.old calls.new
+        (λ tree. OpensRegular C.File.opened tree (path_named paths.now name.now) result) }
 {
     let path = paths.path_of(name)?;
     let mut folder = calls.open(path.as_str(), access)?;
@@ -85,8 +86,8 @@ pub fn open_regular<C: FileCalls>(
     name: &str,
     access: Access,
 ) -> Result<C::File, Denial>
-    ensures { C.sound calls.new → C.sound calls.old × (C.tree calls.new ≡ C.tree calls.old)
-        × OpensRegular C.File.opened (C.tree calls.old) (path_named paths.now name.now) result }
+    ensures { WhereFilesStay C.sound C.tree calls.old calls.new
+        (λ tree. OpensRegular C.File.opened tree (path_named paths.now name.now) result) }
 {
     match open_found(calls, paths, name, access)? {
         Some(file) => Ok(file),
@@ -102,8 +103,8 @@ fn read_some<C: FileCalls>(
 ) -> Result<Option<usize>, Denial>
     requires { 0 < length buf.old }
     ensures within { IfOk result (λ got. IfSome got (λ n. n ≤ length buf.new)) }
-    ensures reads { C.sound calls.new → C.sound calls.old × (C.tree calls.new ≡ C.tree calls.old)
-        × IfOk result (ReadsSome (C.tree calls.old) (C.File.opened file.old) buf.new (C.File.opened file.new)) }
+    ensures reads { WhereFilesStay C.sound C.tree calls.old calls.new
+        (λ tree. IfOk result (ReadsSome tree (C.File.opened file.old) buf.new (C.File.opened file.new))) }
     ensures there { NeverAbsent result }
 {
     match calls.read(file, buf) {
@@ -120,8 +121,8 @@ fn read_some<C: FileCalls>(
 /// Puts bytes of an open file into a buffer, and returns how many: as many as fit, or all that are left.
 fn fill<C: FileCalls>(calls: &mut C, file: &mut C::File, buf: &mut [u8]) -> Result<usize, Denial>
     ensures within { IfOk result (λ n. n ≤ length buf.new) }
-    ensures reads { C.sound calls.new → C.sound calls.old × (C.tree calls.new ≡ C.tree calls.old)
-        × Fills (C.tree calls.old) (C.File.opened file.old) result buf.new (C.File.opened file.new) }
+    ensures reads { WhereFilesStay C.sound C.tree calls.old calls.new
+        (λ tree. Fills tree (C.File.opened file.old) result buf.new (C.File.opened file.new)) }
 {
     let mut filled = 0;
     for _ in 0..u64::MAX {
@@ -144,8 +145,8 @@ fn fill<C: FileCalls>(calls: &mut C, file: &mut C::File, buf: &mut [u8]) -> Resu
 
 /// The same, but a buffer that isn't full is an error.
 fn fill_whole<C: FileCalls>(calls: &mut C, file: &mut C::File, buf: &mut [u8]) -> Result<(), Denial>
-    ensures { C.sound calls.new → C.sound calls.old × (C.tree calls.new ≡ C.tree calls.old)
-        × FillsWhole (C.tree calls.old) (C.File.opened file.old) result buf.new (C.File.opened file.new) }
+    ensures { WhereFilesStay C.sound C.tree calls.old calls.new
+        (λ tree. FillsWhole tree (C.File.opened file.old) result buf.new (C.File.opened file.new)) }
 {
     if fill(calls, file, buf)? < buf.len() {
         return Err(file.denied(io::Error::new(
@@ -180,8 +181,8 @@ fn bytes_in<C: FileCalls>(
     file: &mut C::File,
     alloc: Global,
 ) -> Result<Vec<u8>, Denial>
-    ensures { C.sound calls.new → C.sound calls.old × (C.tree calls.new ≡ C.tree calls.old)
-        × ReadsOpened (C.tree calls.old) (C.File.opened file.old) result }
+    ensures { WhereFilesStay C.sound C.tree calls.old calls.new
+        (λ tree. ReadsOpened tree (C.File.opened file.old) result) }
 {
     let size = calls.fstat(file)?.len as usize;
     let mut bytes = Vec::new(alloc);
@@ -210,8 +211,8 @@ fn small_edges<C: FileCalls>(
     size: usize,
 ) -> Result<Edges, Denial>
     requires { size < 5 }
-    ensures { C.sound calls.new → C.sound calls.old × (C.tree calls.new ≡ C.tree calls.old)
-        × MeasuresOpened (C.tree calls.old) (C.File.opened file.old) size result }
+    ensures { WhereFilesStay C.sound C.tree calls.old calls.new
+        (λ tree. MeasuresOpened tree (C.File.opened file.old) size result) }
 {
     let mut buf = [0u8; 4];
     let front = &mut buf[..size];
@@ -221,8 +222,8 @@ fn small_edges<C: FileCalls>(
 
 /// The size of an open file, which is known, and its ends.
 fn edges_in<C: FileCalls>(calls: &mut C, file: &mut C::File, size: u64) -> Result<Edges, Denial>
-    ensures { C.sound calls.new → C.sound calls.old × (C.tree calls.new ≡ C.tree calls.old)
-        × MeasuresOpened (C.tree calls.old) (C.File.opened file.old) size result }
+    ensures { WhereFilesStay C.sound C.tree calls.old calls.new
+        (λ tree. MeasuresOpened tree (C.File.opened file.old) size result) }
 {
     if size < 5 {
         return small_edges(calls, file, size as usize);
@@ -243,8 +244,8 @@ fn piece_in<C: FileCalls>(
     buf: &mut [u8],
 ) -> Result<usize, Denial>
     ensures within { IfOk result (λ count. count ≤ length buf.new) }
-    ensures reads { C.sound calls.new → C.sound calls.old × (C.tree calls.new ≡ C.tree calls.old)
-        × ReadsPieceOpened (C.tree calls.old) (C.File.opened file.old) start result buf.new }
+    ensures reads { WhereFilesStay C.sound C.tree calls.old calls.new
+        (λ tree. ReadsPieceOpened tree (C.File.opened file.old) start result buf.new) }
 {
     let there = calls.fstat(file)?.len.saturating_sub(start);
     let count = there.min(buf.len() as u64) as usize;
@@ -261,9 +262,8 @@ pub fn read_all<C: FileCalls>(
     paths: &HostPaths<'_>,
     name: &str,
 ) -> Result<Vec<u8>, Denial>
-    ensures { C.sound calls.new → C.sound calls.old × (C.tree calls.new ≡ C.tree calls.old)
-        × ReadsFile (C.tree calls.old).directory (path_named paths.now name.now) (answered result)
-        (C.tree calls.old).directory }
+    ensures { WhereFilesStay C.sound C.tree calls.old calls.new
+        (λ tree. ReadsFile tree.directory (path_named paths.now name.now) (answered result) tree.directory) }
 {
     let mut file = open_regular(calls, paths, name, Access::Read)?;
     bytes_in(calls, &mut file, paths.alloc)
@@ -277,9 +277,8 @@ pub fn read_edges<C: FileCalls>(
     name: &str,
 ) -> Result<Edges, Denial>
     ensures watches { ReadsWatched C.File.told watch.old result watch.new }
-    ensures measures { C.sound calls.new → C.sound calls.old × (C.tree calls.new ≡ C.tree calls.old)
-        × MeasuresFile (C.tree calls.old).directory (path_named paths.now name.now) (answered result)
-        (C.tree calls.old).directory }
+    ensures measures { WhereFilesStay C.sound C.tree calls.old calls.new
+        (λ tree. MeasuresFile tree.directory (path_named paths.now name.now) (answered result) tree.directory) }
 {
     let mut file = open_regular(calls, paths, name, Access::Read)?;
     let found = calls.fstat(&file)?;
@@ -296,9 +295,9 @@ pub fn read_piece<C: FileCalls>(
     buf: &mut [u8],
 ) -> Result<usize, Denial>
     ensures within { IfOk result (λ count. count ≤ length buf.new) }
-    ensures reads { C.sound calls.new → C.sound calls.old × (C.tree calls.new ≡ C.tree calls.old)
-        × ReadsPiece (C.tree calls.old).directory (path_named paths.now name.now) start (answered result) buf.new
-        (C.tree calls.old).directory }
+    ensures reads { WhereFilesStay C.sound C.tree calls.old calls.new
+        (λ tree. ReadsPiece tree.directory (path_named paths.now name.now) start (answered result) buf.new
+        tree.directory) }
 {
     let mut file = open_regular(calls, paths, name, Access::Read)?;
     piece_in(calls, &mut file, start, buf)
@@ -310,9 +309,8 @@ pub fn measure<C: FileCalls>(
     paths: &HostPaths<'_>,
     name: &str,
 ) -> Result<u64, Denial>
-    ensures { C.sound calls.new → C.sound calls.old × (C.tree calls.new ≡ C.tree calls.old)
-        × TellsFileSize (C.tree calls.old).directory (path_named paths.now name.now) (answered result)
-        (C.tree calls.old).directory }
+    ensures { WhereFilesStay C.sound C.tree calls.old calls.new
+        (λ tree. TellsFileSize tree.directory (path_named paths.now name.now) (answered result) tree.directory) }
 {
     let path = paths.path_of(name)?;
     let found = calls.stat(path.as_str())?;

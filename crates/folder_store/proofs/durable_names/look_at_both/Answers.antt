@@ -1,24 +1,28 @@
 use Rattle.std.proofs.Common.{Ok, rules}
 use Rattle.mail_store.specs.declared.maildir.disk.Folder.TheVariants.{New, Cur}
+use Rattle.folder_store.specs.{MailCalls.Learns, Sound.WhereFilesSound}
 use Rattle.folder_store.proofs.{
-  MailCalls.{Learned, lacked, leads_learns, learned, learns_same, lists_learns, both_listed},
+  MailCalls.{lacked, leads_learns, learned, learns_same, lists_learns, both_listed},
   MailMoves.moved_same,
   durable_names.look_at_both.{Given.Over, Goals.{In_ok-in_new, In_ok-in_cur, In_ok-rests}},
 }
 use Rattle.folder_store.proofs.durable_names.look_at_both.Goals as goal
 
 -- each call begins four steps after the one before it went well
-by_list : (g : Over) (c : In_ok-in_new g) → Learned g.F.MailFolders.sound g.F.MailFolders.directories c.args.folders.now c.list.new.self
+by_list : (g : Over) (c : In_ok-in_new g)
+    → WhereFilesSound g.F.MailFolders.sound g.F.MailFolders.directories c.args.folders.now c.list.new.self Learns
 by_list g c = λ s. let t = c.in_ok-in_new.ensures.lists s
     in (t.0, lists_learns New c.args.sought _ _ (Ok c.in_ok-in_new.in_new) t.1)
 
-by_lists : (g : Over) (c : In_ok-in_cur g) → Learned g.F.MailFolders.sound g.F.MailFolders.directories c.args.folders.now c.list-2.new.self
+by_lists : (g : Over) (c : In_ok-in_cur g)
+    → WhereFilesSound g.F.MailFolders.sound g.F.MailFolders.directories c.args.folders.now c.list-2.new.self Learns
 by_lists g c = learned _ _ _ (by_list g c.before.before.before.before) c.in_ok-in_cur.ensures.lists
     (lists_learns Cur c.args.sought _ _ (Ok c.in_ok-in_cur.in_cur))
 
-by_all : (g : Over) (c : In_ok-rests g) → Learned g.F.MailFolders.sound g.F.MailFolders.directories c.args.folders.now c.rests.new.self
+by_all : (g : Over) (c : In_ok-rests g)
+    → WhereFilesSound g.F.MailFolders.sound g.F.MailFolders.directories c.args.folders.now c.rests.new.self Learns
 by_all g c = learned _ _ _ (by_lists g c.before.before.before.before) c.in_ok-rests.ensures.tells
-    (λ t. leads_learns _ _ (moved_same _ t.0 _ t.1 t.2.0))
+    (λ (mid, moved, (same, _, _)). leads_learns _ _ (moved_same _ mid _ moved same))
 
 pub returns-in_err-in_new-clause-looks : goal.returns-in_err-in_new-clause-looks
 returns-in_err-in_new-clause-looks g c = lacked _ _ _ _ New c.in_err-in_new.field-0.0 c.from_residual.result c.from_residual.ensures.1
@@ -33,7 +37,7 @@ pub returns-in_err-rests-clause-looks : goal.returns-in_err-rests-clause-looks
 returns-in_err-rests-clause-looks g c =
     lacked _ _ _ _ New c.in_err-rests.field-0.0 c.from_residual-in_err-rests.result c.from_residual-in_err-rests.ensures.1
     (by_lists g (goal.at.returns-in_err-rests-clause-looks g c).In_ok-in_cur)
-    (λ s. let t = c.in_err-rests.ensures.tells s in (t.0, (t.1.0, t.1.1, (t.1.2.0, t.1.2.2))))
+    (λ s. let (held, (mid, moved, (same, _, missing))) = c.in_err-rests.ensures.tells s in (held, (mid, moved, (same, missing))))
 
 pub returns-then-not-branch-clause-looks : goal.returns-then-not-branch-clause-looks
 returns-then-not-branch-clause-looks g c = λ s.

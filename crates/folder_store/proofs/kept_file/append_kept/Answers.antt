@@ -5,28 +5,28 @@ use Rattle.folder_store.proofs.kept_file.append_kept.Goals as goal
 
 pub returns-clause-appends : goal.returns-clause-appends
 returns-clause-appends g c = λ s.
-    let wrote = c.append_watched-answer.ensures.appends s in
-    let first = c.in_ok-changed.ensures.opens wrote.0 in (
-      first.0,
+    let (held, (_, _, wrote)) = c.append_watched-answer.ensures.appends s in
+    let (before, stays, (is_open, _)) = c.in_ok-changed.ensures.opens held in (
+      before,
       appends_answer (g.C.FileCalls.tree c.args.calls.now) (g.C.FileCalls.tree c.append_watched-answer.new.calls)
           (path_named c.args.paths.now c.args.name.now)
-          (g.C.File.OpenHandle.opened c.in_ok-changed.changed.file) c.args.bytes.now c.append_watched-answer.result first.2.0
-          (rw first.1 at wrote.3),
+          (g.C.File.OpenHandle.opened c.in_ok-changed.changed.file) c.args.bytes.now c.append_watched-answer.result is_open
+          (rw stays at wrote),
     )
 
 pub returns-clause-kept : goal.returns-clause-kept
-returns-clause-kept g c = keeps_open g.C.File.OpenHandle.opened (folder_of c.args.paths.now) _ _ (g.C.FileCalls.tree c.args.calls.now)
-    (g.C.FileCalls.tree c.append_watched-answer.new.calls) c.args.handles.now c.keep.new.self c.append_watched-answer.new.changed c.requires
+returns-clause-kept g c = keeps_open g.C.FileCalls g.C.File.OpenHandle.opened (folder_of c.args.paths.now) c.args.calls.now
+    c.append_watched-answer.new.calls c.args.handles.now c.keep.new.self c.append_watched-answer.new.changed c.requires
     (λ s. (c.in_ok-changed.ensures.opens (c.append_watched-answer.ensures.appends s).0).0) c.keep.ensures.0
     (c.keep.ensures.1 ∙ c.in_ok-changed.ensures.others.1)
     (λ s.
-    let wrote = c.append_watched-answer.ensures.appends s in
-    let first = c.in_ok-changed.ensures.opens wrote.0 in
+    let (held, (place, title, wrote)) = c.append_watched-answer.ensures.appends s in
+    let (_, stays, (is_open, named)) = c.in_ok-changed.ensures.opens held in
     subst (λ (name : List ℕ). IsOpenedAt (g.C.FileCalls.tree c.append_watched-answer.new.calls)
     (front_of (folder_of c.args.paths.now) ++ name)
-    (g.C.File.OpenHandle.opened c.append_watched-answer.new.changed.file)) (sym (ap string_bytes wrote.2 ∙ first.2.1))
+    (g.C.File.OpenHandle.opened c.append_watched-answer.new.changed.file)) (sym (ap string_bytes title ∙ named))
     (still_open (g.C.FileCalls.tree c.args.calls.now) (g.C.FileCalls.tree c.append_watched-answer.new.calls)
     (path_named c.args.paths.now c.args.name.now)
     (g.C.File.OpenHandle.opened c.in_ok-changed.changed.file) (g.C.File.OpenHandle.opened c.append_watched-answer.new.changed.file)
-    first.2.0
-    (appends_change _ _ _ _ c.args.bytes.now c.append_watched-answer.result first.2.0 (rw first.1 at wrote.3)) wrote.1))
+    is_open
+    (appends_change _ _ _ _ c.args.bytes.now c.append_watched-answer.result is_open (rw stays at wrote)) place))

@@ -5,25 +5,25 @@ use Rattle.folder_store.proofs.kept_file.cut_kept.Goals as goal
 
 pub returns-clause-cuts : goal.returns-clause-cuts
 returns-clause-cuts g c = λ s.
-    let cut = c.cut_watched-answer.ensures.cuts s in
-    let first = c.in_ok-changed.ensures.opens cut.0 in (
-      first.0,
+    let (held, cut) = c.cut_watched-answer.ensures.cuts s in
+    let (before, stays, (is_open, _)) = c.in_ok-changed.ensures.opens held in (
+      before,
       cuts_answer (g.C.FileCalls.tree c.args.calls.now) (g.C.FileCalls.tree c.cut_watched-answer.new.calls)
           (path_named c.args.paths.now c.args.name.now)
-          (g.C.File.OpenHandle.opened c.in_ok-changed.changed.file) c.args.len c.cut_watched-answer.result first.2.0 (rw first.1 at cut.1),
+          (g.C.File.OpenHandle.opened c.in_ok-changed.changed.file) c.args.len c.cut_watched-answer.result is_open (rw stays at cut),
     )
 
 pub returns-clause-kept : goal.returns-clause-kept
-returns-clause-kept g c = keeps_open g.C.File.OpenHandle.opened (folder_of c.args.paths.now) _ _ (g.C.FileCalls.tree c.args.calls.now)
-    (g.C.FileCalls.tree c.cut_watched-answer.new.calls) c.args.handles.now c.keep.new.self c.in_ok-changed.changed c.requires
+returns-clause-kept g c = keeps_open g.C.FileCalls g.C.File.OpenHandle.opened (folder_of c.args.paths.now) c.args.calls.now
+    c.cut_watched-answer.new.calls c.args.handles.now c.keep.new.self c.in_ok-changed.changed c.requires
     (λ s. (c.in_ok-changed.ensures.opens (c.cut_watched-answer.ensures.cuts s).0).0) c.keep.ensures.0
     (c.keep.ensures.1 ∙ c.in_ok-changed.ensures.others.1)
     (λ s.
-    let cut = c.cut_watched-answer.ensures.cuts s in
-    let first = c.in_ok-changed.ensures.opens cut.0 in
+    let (held, cut) = c.cut_watched-answer.ensures.cuts s in
+    let (_, stays, (is_open, named)) = c.in_ok-changed.ensures.opens held in
     subst (λ (name : List ℕ). IsOpenedAt (g.C.FileCalls.tree c.cut_watched-answer.new.calls) (front_of (folder_of c.args.paths.now) ++ name)
-    (g.C.File.OpenHandle.opened c.in_ok-changed.changed.file)) (sym first.2.1)
+    (g.C.File.OpenHandle.opened c.in_ok-changed.changed.file)) (sym named)
     (still_open (g.C.FileCalls.tree c.args.calls.now) (g.C.FileCalls.tree c.cut_watched-answer.new.calls)
     (path_named c.args.paths.now c.args.name.now)
-    (g.C.File.OpenHandle.opened c.in_ok-changed.changed.file) (g.C.File.OpenHandle.opened c.in_ok-changed.changed.file) first.2.0
-    (cuts_change _ _ _ _ c.args.len c.cut_watched-answer.result first.2.0 (rw first.1 at cut.1)) refl))
+    (g.C.File.OpenHandle.opened c.in_ok-changed.changed.file) (g.C.File.OpenHandle.opened c.in_ok-changed.changed.file) is_open
+    (cuts_change _ _ _ _ c.args.len c.cut_watched-answer.result is_open (rw stays at cut)) refl))

@@ -13,8 +13,8 @@ pub returns-in-Err-put_durably-clause-settles : goal.returns-in-Err-put_durably-
 returns-in-Err-put_durably-clause-settles g c =
     let was = sym c.take.ensures.value ∙ c.in-Some.is in
     rw (was, c.take.ensures.after) (λ s.
-    let t = c.in-Err-put_durably.ensures s.0 in (
-      (t.0, t.1, c.in_default.ensures.admitted),
+    let (held, (made, put)) = c.in-Err-put_durably.ensures s.0 in (
+      (held, made, c.in_default.ensures.admitted),
       λ f h. not_settled _ _ _ f c.args.name.now _ _ c.in-Err-put_durably.field-0
-          c.refuse-in-Err-put_durably.ensures.counted h t.2,
+          c.refuse-in-Err-put_durably.ensures.counted h put,
     ))
