@@ -29,18 +29,19 @@ reads_under front name d (Err fault) is = (refl, λ gone. sym (content_under fro
 
 pub measures_under : (front name : List ℕ) (d : Directory) (r : Result Edges StoreFault) → MeasuresFile d (front ++ name) r d
     → MeasuresFile (directory_under front d) name r (directory_under front d)
-measures_under front name d (Ok edges) is = ((is.0.0, sym (content_under front name d) ∙ is.0.1, is.0.2), refl)
+measures_under front name d (Ok edges) ((was, there, same), _) = ((was, sym (content_under front name d) ∙ there, same), refl)
 measures_under front name d (Err fault) is = (refl, λ gone. sym (content_under front name d) ∙ is.1 gone)
 
 pub pieces_under : (front name : List ℕ) (d : Directory) (start : ℕ) (r : Result ℕ StoreFault) (buf : List ℕ)
     → ReadsPiece d (front ++ name) start r buf d
     → ReadsPiece (directory_under front d) name start r buf (directory_under front d)
-pieces_under front name d start (Ok n) buf is = ((is.0.0, sym (content_under front name d) ∙ is.0.1, is.0.2, is.0.3), refl)
+pieces_under front name d start (Ok n) buf ((was, there, count, bytes), _) =
+    ((was, sym (content_under front name d) ∙ there, count, bytes), refl)
 pieces_under front name d start (Err fault) buf is = (refl, λ gone. sym (content_under front name d) ∙ is.1 gone)
 
 pub sizes_under : (front name : List ℕ) (d : Directory) (r : Result ℕ StoreFault) → TellsFileSize d (front ++ name) r d
     → TellsFileSize (directory_under front d) name r (directory_under front d)
-sizes_under front name d (Ok size) is = ((is.0.0, sym (content_under front name d) ∙ is.0.1, is.0.2), refl)
+sizes_under front name d (Ok size) ((was, there, same), _) = ((was, sym (content_under front name d) ∙ there, same), refl)
 sizes_under front name d (Err fault) is = (refl, λ gone. sym (content_under front name d) ∙ is.1 gone)
 
 -- ---- what is changed

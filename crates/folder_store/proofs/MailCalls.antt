@@ -142,7 +142,7 @@ pub lacked : {T P Q R : Type 0} (Is : T → Type 0) (a b c : Directories) (folde
     → (Q → P × Learns a b) → (R → Q × Then (λ m x. Lacks m folder fault x) b c) → R
     → P × (Learns a c × IfOk r Is × IfMissing r (LacksOne c))
 lacked Is a b c folder fault r is before call =
-    unflushed Is a b c folder fault r is before (λ s. let t = call s in (t.0, (t.1.0, t.1.1, inl t.1.2)))
+    unflushed Is a b c folder fault r is before (λ s. let (held, (mid, moved, lacks)) = call s in (held, (mid, moved, inl lacks)))
 
 -- ---- the names of both
 
@@ -233,34 +233,36 @@ module _ {A B : Type 0} (asked : Asked) (o a b c d : Directories) (in_new in_cur
   told : (found : FoundNames) → Then (TellsFiles (map string_bytes in_new.items) (map string_bytes in_cur.items) (Ok found)) c d
       → ToldBoth (asks asked) found.files.items found.odd.items d
   told found (m, v, (e, (are, odd_are))) =
-      let l = listed.0 in
+      let (l, (new_there, new_told, _, (new_odd, new_odd_told)), (cur_there, cur_told, _, (cur_odd, cur_odd_told)), since) = listed in
+      let (between, _, (_, new_flushed)) = new in
+      let (last, still, (_, cur_flushed)) = cur in
       let first = flushes_leads New a b (Ok done) new in
       let next = flushes_leads Cur b c (Ok done') cur in
-      let there : d.there ≡ l.there = ap (λ (d : Directories). d.there) e ∙ v.there ∙ next.there ∙ first.there ∙ listed.3.there in
+      let there : d.there ≡ l.there = ap (λ (d : Directories). d.there) e ∙ v.there ∙ next.there ∙ first.there ∙ since.there in
       let files : files_at d.entries ≡ files_at c.entries = rw e (files_moved c.entries m.entries v.moves) in
       let same : names_of (files_at d.entries) ≡ names_of (files_at (filter is_left l.entries)) =
       ap names_of files ∙ names_kept b.entries c.entries next.keeps ∙ names_kept a.entries b.entries first.keeps
-      ∙ ap names_of (files_moved (filter is_left l.entries) a.entries listed.3.moves) in
+      ∙ ap names_of (files_moved (filter is_left l.entries) a.entries since.moves) in
       let by_new = flush_odd New done a b new in
       let by_cur = flush_odd Cur done' b c cur in
-      let odd_new : m.odd_new ≡ l.odd_new = v.odd_new ∙ by_cur.0 ∙ by_new.0 ∙ listed.3.odd_new in
-      let odd_cur : m.odd_cur ≡ l.odd_cur = v.odd_cur ∙ by_cur.1 ∙ by_new.1 ∙ listed.3.odd_cur in
-      let dirs_cur : m.dirs_cur ≡ l.dirs_cur = v.dirs_cur ∙ by_cur.2 ∙ by_new.2 ∙ listed.3.dirs_cur in
+      let odd_new : m.odd_new ≡ l.odd_new = v.odd_new ∙ by_cur.0 ∙ by_new.0 ∙ since.odd_new in
+      let odd_cur : m.odd_cur ≡ l.odd_cur = v.odd_cur ∙ by_cur.1 ∙ by_new.1 ∙ since.odd_cur in
+      let dirs_cur : m.dirs_cur ≡ l.dirs_cur = v.dirs_cur ∙ by_cur.2 ∙ by_new.2 ∙ since.dirs_cur in
       let odd : odd_in_both d ≡ odd_in_both l = rw e (rw (odd_new, odd_cur) refl) in
-      let both = told_both (asks asked) l.entries _ _ listed.1.1 listed.2.1 in record {
-        new_is_there = rw there listed.1.0;
-        cur_is_there = rw there listed.2.0;
+      let both = told_both (asks asked) l.entries _ _ new_told cur_told in record {
+        new_is_there = rw there new_there;
+        cur_is_there = rw there cur_there;
         lists = (
           both.0,
           rw same both.1,
           sym (map-map base string_bytes found.files.items) ∙ ap (map base) (rw (odd_new, odd_cur, dirs_cur) at are) ∙ both.2,
         );
-        named = rw (files, cur.2.1) (both_named new.0.entries cur.0.entries (rw new.2.1 at cur.1.moves));
+        named = rw (files, cur_flushed) (both_named between.entries last.entries (rw new_flushed at still.moves));
         odd_are = subst (λ (there : List (List ℕ)). IsPermutation there (map string_bytes found.odd.items)) (sym odd)
             (subst (IsPermutation (odd_in_both l)) (sym (rw (odd_new, odd_cur) at odd_are))
-            (IsPermutation-append _ _ _ _ listed.1.3.1 listed.2.3.1));
+            (IsPermutation-append _ _ _ _ new_odd_told cur_odd_told));
         odd_sought = subst (AllSought (asks asked)) (sym odd) (all_append _ l.odd_new l.odd_cur
-            (all_sought (asks asked) _ _ l.odd_new listed.1.3.0) (all_sought (asks asked) _ _ l.odd_cur listed.2.3.0));
+            (all_sought (asks asked) _ _ l.odd_new new_odd) (all_sought (asks asked) _ _ l.odd_cur cur_odd));
       }
 
   pub told_files : (r : Result FoundNames StoreFault) → IfErr r (λ fault. fault ≡ Refused)

@@ -52,7 +52,7 @@ hex_lack c off (d ∷ text) all =
     )
 
 id_lacks : (c : ℕ) → 10 ≤ digit_value c → (id : List ℕ) → IsProcessId id → IsFreeOf c id
-id_lacks c big id is = All-from_recursion (λ (o : ℕ). o ≢ c) id (digits_lack c big id is.0.1)
+id_lacks c big id ((_, digits), _) = All-from_recursion (λ (o : ℕ). o ≢ c) id (digits_lack c big id digits)
 
 -- a mark has no full stop
 mark_lacks : (id random : List ℕ) → IsProcessId id → is_random random ≡ true → IsFreeOf 46 (80 ∷ (id ++ 82 ∷ random))

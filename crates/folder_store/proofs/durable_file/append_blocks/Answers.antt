@@ -7,12 +7,12 @@ pub returns-in_err-append_flushed : goal.returns-in_err-append_flushed
 returns-in_err-append_flushed g c =
     let p = err_from_is_err_and c.from_residual-in_err-append_flushed.result c.from_residual-in_err-append_flushed.ensures.1 in
     rw p.1 (λ s.
-    let piece = c.in_err-append_flushed.ensures s in
-    let sized = c.in_ok-size.ensures piece.0 in
+    let (held, piece) = c.in_err-append_flushed.ensures s in
+    let (before, (_, stays)) = c.in_ok-size.ensures held in
     let front = c.split_at.result.0.now in (
-      sized.0,
+      before,
       front_of_all {T = Unit {0}} (Unit {0}) (disk_at (g.F.FolderState.directory c.args.folder.now) c.args.name.now) _
-          _ front _ (Err p.0) p.0 (in_parts _ front _ _ c.split_at.ensures.front c.split_at.ensures.back) (rw sized.1.1 at piece.1),
+          _ front _ (Err p.0) p.0 (in_parts _ front _ _ c.split_at.ensures.front c.split_at.ensures.back) (rw stays at piece),
     ))
 
 pub returns-in_err-append_flushed-2 : goal.returns-in_err-append_flushed-2

@@ -8,13 +8,13 @@ returns-in_err-put g c =
     rw p.1 (λ s.
     let put = c.in_err-put.ensures s in
     let filled = c.in_default.ensures put.1 in
-    let make = c.in_ok-file.ensures.makes put.0 filled.0 in
-    (make.0, not_replaced _ _ _ _ _ c.in_err-put.field-0.0 p.0 (rw make.2.1 at filled.1) (rw make.1 at put.2)))
+    let (before, stays, (_, is_empty)) = c.in_ok-file.ensures.makes put.0 filled.0 in
+    (before, not_replaced _ _ _ _ _ c.in_err-put.field-0.0 p.0 (rw is_empty at filled.1) (rw stays at put.2)))
 
 pub returns : goal.returns
 returns g c = λ s.
     let names = c.flush_names.ensures s in
     let put = c.in_ok-put.ensures names.0 in
     let filled = c.in_default.ensures put.1 in
-    let make = c.in_ok-file.ensures.makes put.0 filled.0 in
-    (make.0, replaced _ _ _ _ _ _ c.flush_names.result (rw make.2.1 at filled.1) (rw make.1 at put.2) names.1)
+    let (before, stays, (_, is_empty)) = c.in_ok-file.ensures.makes put.0 filled.0 in
+    (before, replaced _ _ _ _ _ _ c.flush_names.result (rw is_empty at filled.1) (rw stays at put.2) names.1)

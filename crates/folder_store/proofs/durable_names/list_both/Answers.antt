@@ -8,9 +8,9 @@ loop-times-init g c = λ s. (s, learns_same (g.F.MailFolders.directories c.args.
 pub returns-in_err-names-clause-lists : goal.returns-in_err-names-clause-lists
 returns-in_err-names-clause-lists g c =
     rw (is_err c.from_residual.result c.from_residual.ensures.1) (λ s.
-    let look = c.in_err-names.ensures.looks s in
-    let so_far = c.loop-times.invariant look.0 in
-    (so_far.0, (learns_on _ _ _ so_far.1 look.1.0, tt, look.1.2)))
+    let (held, (led, _, missing)) = c.in_err-names.ensures.looks s in
+    let (before, so_far) = c.loop-times.invariant held in
+    (before, (learns_on _ _ _ so_far led, tt, missing)))
 
 pub returns-in-Some-clause-lists : goal.returns-in-Some-clause-lists
 returns-in-Some-clause-lists g c = λ s.
@@ -21,6 +21,6 @@ returns-in-Some-clause-lists g c = λ s.
 
 pub loop-times-preserved : goal.loop-times-preserved
 loop-times-preserved g c = λ s.
-    let look = c.in_ok-names.ensures.looks s in
-    let so_far = c.loop-times.invariant look.0 in
-    (so_far.0, learns_on _ _ _ so_far.1 look.1.0)
+    let (held, (led, _, _)) = c.in_ok-names.ensures.looks s in
+    let (before, so_far) = c.loop-times.invariant held in
+    (before, learns_on _ _ _ so_far led)

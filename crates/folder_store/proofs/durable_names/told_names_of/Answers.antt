@@ -9,8 +9,8 @@ use Rattle.folder_store.proofs.durable_names.told_names_of.Goals as goal
 pub returns-in_err-names-clause-tells : goal.returns-in_err-names-clause-tells
 returns-in_err-names-clause-tells g c =
     rw (is_err c.from_residual.result c.from_residual.ensures.1) (λ s.
-    let t = c.in_err-names.ensures.lists s in
-    (t.0, one_unflushed _ _ _ c.args.folder c.in_err-names.field-0.0 (learns_same _) (t.1.0, t.1.1, inl t.1.2)))
+    let (held, (mid, moved, lacks)) = c.in_err-names.ensures.lists s in
+    (held, one_unflushed _ _ _ c.args.folder c.in_err-names.field-0.0 (learns_same _) (mid, moved, inl lacks)))
 
 pub returns-in_err-flush_names-clause-tells : goal.returns-in_err-flush_names-clause-tells
 returns-in_err-flush_names-clause-tells g c =

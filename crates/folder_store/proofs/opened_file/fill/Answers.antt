@@ -8,21 +8,21 @@ loop-preserved g c = elim c.match-got.branch [
   | in-Some+else-count-eq0 w ↦ (
     rw w.filled-is (put_fits c.loop.filled w.in-Some.count c.loop.buf c.read_some.new.buf c.loop.invariant.0
         (rw w.in-Some.is at c.in_ok-got.ensures.within) c.read_some.auto.buf),
-    λ s. let r = rw w.in-Some.is at (c.in_ok-got.ensures.reads s) in
-        let before = c.loop.invariant.1 r.0 in (
-          before.0,
-          r.1 ∙ before.1,
-          rw w.filled-is (filled_more _ _ _ _ _ c.loop.buf c.read_some.new.buf c.loop.filled w.in-Some.count _ before.1 c.loop.invariant.0
-              (rw w.in-Some.is at c.in_ok-got.ensures.within) before.2 r.2.0 r.2.1),
+    λ s. let (held, stays, (at, read)) = rw w.in-Some.is at (c.in_ok-got.ensures.reads s) in
+        let (before, stayed, filled) = c.loop.invariant.1 held in (
+          before,
+          stays ∙ stayed,
+          rw w.filled-is (filled_more _ _ _ _ _ c.loop.buf c.read_some.new.buf c.loop.filled w.in-Some.count _ stayed c.loop.invariant.0
+              (rw w.in-Some.is at c.in_ok-got.ensures.within) filled at read),
         ),
   )
   | in-None w ↦ (
     rw w.filled-is (put_same c.loop.filled c.loop.buf c.read_some.new.buf c.loop.invariant.0 c.read_some.auto.buf),
-    λ s. let r = rw w.in-None.is at (c.in_ok-got.ensures.reads s) in
-        let before = c.loop.invariant.1 r.0 in (
-          before.0,
-          r.1 ∙ before.1,
-          rw w.filled-is (filled_same _ _ _ _ c.loop.buf c.read_some.new.buf c.loop.filled _ c.loop.invariant.0 before.2 r.2),
+    λ s. let (held, stays, at) = rw w.in-None.is at (c.in_ok-got.ensures.reads s) in
+        let (before, stayed, filled) = c.loop.invariant.1 held in (
+          before,
+          stays ∙ stayed,
+          rw w.filled-is (filled_same _ _ _ _ c.loop.buf c.read_some.new.buf c.loop.filled _ c.loop.invariant.0 filled at),
         ),
   )
 ]

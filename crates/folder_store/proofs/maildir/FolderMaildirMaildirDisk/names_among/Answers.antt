@@ -9,9 +9,9 @@ returns-in_err-found-clause-lists g c =
     rw (is_err c.from_residual-in_err-found.result c.from_residual-in_err-found.ensures.1) (λ s.
     let begun = option_map (draft_begun g.N.NewFile.made) c.args.self.now.begun in
     let is = sym c.in_err-found.ensures.same in
-    let t = c.told_names.ensures.tells s.0 in (
-      (t.0, s.1, c.in_ok-admit.ensures.admitted),
-      none_told (asks c.args.asked) _ _ begun _ c.tally.new.failures c.in_err-found.field-0.0 t.1.0 (rw is at t.1.2)
+    let (held, (led, _, missing)) = c.told_names.ensures.tells s.0 in (
+      (held, s.1, c.in_ok-admit.ensures.admitted),
+      none_told (asks c.args.asked) _ _ begun _ c.tally.new.failures c.in_err-found.field-0.0 led (rw is at missing)
           (rw is at c.told_names.ensures.fault) (rw is at c.in_err-found.ensures.counted),
     ))
 
