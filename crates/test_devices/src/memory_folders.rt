@@ -6,9 +6,8 @@ ghost use Rattle.std.specs.{
   List.filter,
 };
 ghost use Rattle.mail_terms.specs.{MaildirName.base, UniqueId.has_id};
-ghost use Rattle.mail_store.specs.{Maildir.{all_there, is_there}, Loss.is_among};
+ghost use Rattle.mail_store.specs.{Maildir.all_there, Loss.is_among};
 ghost use Rattle.folder_store.specs.{
-  FileFolder.empty_made,
   MailCalls.{IsFree, ListsIn, ShowsOdd, entry_flushed_by, file_names, files_flushed, named_by, names_flushed_in},
   MailCalls.{names_sought, names_told, odd_names, put_as, without_taken},
   MailFolders.{Moved, MovesFile, closed_in, entries_in, is_in, is_taken, is_told, name_at, odd_names_in, rests_in},
@@ -577,10 +576,16 @@ impl MemoryFolders {
         Ok(Some(String::from_str(self.alloc, name)?))
     }
 
-    // Whether a folder, which is there, has rested since it was last listed.
+    // All folders are there: so it is of each value, whatever was done. Nothing happens.
+    pub(crate) fn are_there(&self)
+        ensures { self.now.there ≡ all_there }
+    {
+        let _ = self.files.len();
+    }
+
+    // Whether a folder has rested since it was last listed.
     pub(crate) fn has_rested(&self, folder: Folder) -> bool
-        ensures rests { result ≡ rests_in folder self.now }
-        ensures there { is_there self.now.there folder ≡ true }
+        ensures { result ≡ rests_in folder self.now }
     {
         match folder {
             Folder::New => self.new_rests,
@@ -632,14 +637,6 @@ impl MemoryFolders {
         Ok(())
     }
 
-    // A file without bytes and without a name.
-    pub(crate) fn make_now(&self) -> MemoryNewFile
-        ensures made { made_of result ≡ empty_made }
-        ensures there { self.now.there.tmp ≡ true }
-    {
-        MemoryNewFile::new(self.alloc)
-    }
-
     // Puts a file that was made into `new`. If memory runs out, nothing changes.
     pub(crate) fn put_now(&mut self, file: MemoryNewFile, name: String) -> Result<(), AllocError>
         ensures ok { OnOk result (self.new ≡ record self.old {
@@ -666,7 +663,6 @@ impl MemoryFolders {
     pub(crate) fn flush_names_now(&mut self, folder: Folder) -> Result<(), AllocError>
         ensures ok { OnOk result (self.new ≡ names_flushed_in folder self.old) }
         ensures err { OnErr result (self.new ≡ self.old) }
-        ensures there { is_there self.old.there folder ≡ true }
     {
         self.files = named_files(self.alloc, &self.files, folder)?;
         Ok(())
@@ -682,8 +678,10 @@ impl MemoryFolders {
         None
     }
 
-    // Whether what can't be opened has a name.
-    pub(crate) fn is_obstructed(&self, name: &str) -> bool {
+    // Whether what can't be opened has a name in `new`.
+    pub(crate) fn is_obstructed(&self, name: &str) -> bool
+        ensures { result ≡ has_id self.now.closed_new name.now }
+    {
         is_one_of(&self.obstacles, name)
     }
 
@@ -708,7 +706,7 @@ impl MailFolders for MemoryFolders {
 
     fn check(&mut self, _folder: Folder) -> Result<(), StoreFault> {
         self.let_reader_move();
-        let _ = self.files.len();
+        self.are_there();
         Ok(())
     }
 
@@ -747,7 +745,7 @@ impl MailFolders for MemoryFolders {
 
     fn make(&mut self, _name: &str) -> Result<MemoryNewFile, StoreFault> {
         self.let_reader_move();
-        Ok(self.make_now())
+        Ok(MemoryNewFile::new(self.alloc))
     }
 
     fn put(&mut self, file: MemoryNewFile, name: &str) -> Result<(), StoreFault> {

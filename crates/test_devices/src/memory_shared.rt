@@ -1,12 +1,12 @@
 //! The folders of a Maildir in memory, call by call.
 
 ghost use Rattle.std.specs.Prelude.{◌≡◌, IfErr, IfOk, IfSome, Some, true};
-ghost use Rattle.mail_store.specs.Maildir.{is_there};
 ghost use Rattle.folder_store.specs.{MailFolders.{Moved, rests_in}, SharedCalls.listed_in};
 ghost use Rattle.test_devices.specs.{MemoryCalls.IsRefusal, MemoryShared.memory_shared};
 
 use crate::memory_calls::{CallFuse, MemoryMade, refusal, stat_of};
 use crate::memory_folders::MemoryFolders;
+use crate::new_file::MemoryNewFile;
 use folder_store::{
     ChangeTime, FileKind, FileStat, Lead, ListedNames, SharedCalls, Sought, readers_move,
 };
@@ -107,7 +107,6 @@ impl MemoryShared {
         ensures ok { IfOk result (λ change.
             listed_in folder (memory_shared self.now) ≡ Some change → rests_in folder self.now.folders ≡ true) }
         ensures err { IfErr result IsRefusal }
-        ensures there { is_there self.now.folders.there folder ≡ true }
     {
         let listed = match folder {
             Folder::New => self.new_listed,
@@ -133,6 +132,7 @@ impl SharedCalls for MemoryShared {
 
     fn stat(&mut self, folder: Folder) -> Result<FileStat, Denial> {
         self.begin(name_of(folder))?;
+        self.folders.are_there();
         let mut found = stat_of(FileKind::Folder, 0, 0);
         found.change = self.change_of(folder)?;
         Ok(found)
@@ -165,10 +165,11 @@ impl SharedCalls for MemoryShared {
 
     fn create(&mut self, name: &str) -> Result<MemoryMade, Denial> {
         self.pass(name)?;
+        self.folders.are_there();
         Ok(MemoryMade {
             alloc: self.alloc,
             path: String::from_str(self.alloc, name)?,
-            file: self.folders.make_now(),
+            file: MemoryNewFile::new(self.alloc),
             fuse: self.made_fuse,
         })
     }

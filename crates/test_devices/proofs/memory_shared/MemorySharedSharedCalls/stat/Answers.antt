@@ -1,5 +1,8 @@
-use Rattle.std.proofs.Common.{◌≡◌, ◌∙◌, ap, refl}
-use Rattle.mail_store.specs.declared.maildir.disk.Folder.{Folder, TheVariants.{New, Cur}}
+use Rattle.std.proofs.Common.{◌≡◌, ◌∙◌, ap, refl, true}
+use Rattle.mail_store.specs.{
+  declared.maildir.disk.Folder.{Folder, TheVariants.{New, Cur}},
+  Maildir.{Folders, all_there, is_there},
+}
 use Rattle.folder_store.specs.SharedCalls.{Shared, listed_in}
 use Rattle.test_devices.specs.MemoryShared.{memory_shared}
 use Rattle.test_devices.proofs.memory_shared.MemorySharedSharedCalls.stat.Goals as goal
@@ -8,6 +11,10 @@ listed_stays : (folder : Folder) (old new : Shared) → new ≡ record old { dir
     → listed_in folder new ≡ listed_in folder old
 listed_stays New old new stays = ap (λ (s : Shared). s.new_listed) stays
 listed_stays Cur old new stays = ap (λ (s : Shared). s.cur_listed) stays
+
+all_are : (folder : Folder) (there : Folders) → there ≡ all_there → is_there there folder ≡ true
+all_are New there all = ap (λ (t : Folders). t.new) all
+all_are Cur there all = ap (λ (t : Folders). t.cur) all
 
 pub returns : goal.returns
 returns c = λ s.
@@ -18,7 +25,7 @@ returns c = λ s.
         (
           c.begin.new.self.folders,
           c.begin.ensures.moves,
-          (refl, λ is. c.change_of.ensures.there, λ listed. c.in_ok-found.ensures.ok (stays ∙ listed)),
+          (refl, λ is. all_are c.args.folder c.begin.new.self.folders.there c.are_there.ensures, λ listed. c.in_ok-found.ensures.ok (stays ∙ listed)),
         ),
       ),
     )
