@@ -256,10 +256,11 @@ impl<'a, R: Files + AllocGlobal> CallsFolder<'a, HostCalls<'a, R>> {
     // flushes no folders, of which a note is taken.
     pub(crate) fn fsync_names(&mut self) -> Result<(), Denial> {
         let names = match names_of(&mut self.calls, &self.paths, &mut self.handles) {
+            Ok(names) => names,
             Err(fault) if flushes_none(&fault) => {
                 return Err(self.folder_refusal("can't be opened"));
             }
-            names => names?,
+            Err(fault) => return Err(fault),
         };
         let answer = self.calls.fsync_folder(&names.folder);
         if let Err(fault) = &answer {
