@@ -18,14 +18,15 @@ all_are Cur there all = ap (λ (t : Folders). t.cur) all
 
 pub returns : goal.returns
 returns c = λ s.
-    let stays = listed_stays c.args.folder (memory_shared c.args.self.now) (memory_shared c.begin.new.self) c.begin.ensures.stays in (
+    let stays = listed_stays c.args.folder (memory_shared c.args.self.now) (memory_shared c.begin.new.self) c.begin.ensures.stays in
+    let there = all_are c.args.folder c.begin.new.self.folders.there c.are_there.ensures in (
       s,
       (
         c.begin.ensures.stays,
         (
           c.begin.new.self.folders,
           c.begin.ensures.moves,
-          (refl, λ is. all_are c.args.folder c.begin.new.self.folders.there c.are_there.ensures, λ listed. c.in_ok-found.ensures.ok (stays ∙ listed)),
+          (refl, λ is. there, λ listed. c.in_ok-found.ensures.ok (stays ∙ listed)),
         ),
       ),
     )
