@@ -2,9 +2,10 @@
 use Rattle.std.proofs.{
   Common.{◌≡◌, ◌↔◌, ◌&&◌, IsTrue, bytes_eq, inl, inr, ℕ, zero, suc, ◌<◌, Bool, true, false, not, List, [], ◌∷◌, ◌++◌, length, map, get_or},
   Common.{set, Contains, Option, Some, None, if◌then◌else◌, refl, sym, ap, ◌∙◌, arith, String, Global, string_bytes, append-nil, filter},
-  Common.true≢false,
-  lemmas.{Bool.not-false, List.Folds.list_any_at, Map.Views.Contains-from_any, Slice.Eq.bytes_eq-Decides},
+  Common.{option_map, true≢false},
+  lemmas.{Bool.{cases_Bool, not-false}, List.Folds.list_any_at, Map.Views.Contains-from_any, Slice.Eq.bytes_eq-Decides},
 }
+use Rattle.std.specs.List.{find}
 use Rattle.mail_terms.proofs.ListLemmas.{any_map}
 use Rattle.mail_store.specs.{Loss.is_among, declared.maildir.disk.Folder.{Folder, TheVariants.{New, Cur}}, Maildir.{File, all_there}}
 use Rattle.test_devices.specs.{declared.memory_folders.StoredMail.StoredMail, MemoryFolders.{MayBeLeftAs, list_of, stored_file}}
@@ -26,6 +27,28 @@ pub told_on : (f : MailFile → Bool) (ss : List MailFile) (s : MailFile)
     ++ (if is_left s && f s then s.name ∷ [] else [])
 told_on f [] s = grind arith
 told_on f (x ∷ ss) s = let rest = told_on f ss s in grind (arith, rest)
+
+-- the first file that passes a test, and how many bytes it has
+first_stored : (p : MailFile → Bool) (ks : List StoredMail)
+    → find p (map stored_file ks) ≡ option_map stored_file (find (λ k. p (stored_file k)) ks)
+first_stored p [] = refl
+first_stored p (k ∷ ks) = elim (cases_Bool (p (stored_file k))) [
+  | inl is ↦ rw is refl
+  | inr isnt ↦ rw isnt (first_stored p ks)
+]
+
+size_of : (found : Option StoredMail)
+    → option_map (λ (s : MailFile). length s.content) (option_map stored_file found)
+    ≡ option_map (λ (k : StoredMail). length k.content.items) found
+size_of None = refl
+size_of (Some k) = refl
+
+pub first_size : (p : MailFile → Bool) (ks : List StoredMail) (found : Option StoredMail) → found ≡ find (λ k. p (stored_file k)) ks
+    → option_map (λ (k : StoredMail). length k.content.items) found
+    ≡ option_map (λ (s : MailFile). length s.content) (find p (map stored_file ks))
+first_size p ks found is = sym (size_of found)
+    ∙ ap (λ (o : Option StoredMail). option_map (λ (s : MailFile). length s.content) (option_map stored_file o)) is
+    ∙ ap (option_map (λ (s : MailFile). length s.content)) (sym (first_stored p ks))
 
 -- ---- a loss of power
 

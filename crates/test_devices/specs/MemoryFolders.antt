@@ -1,7 +1,12 @@
 -- The folders of a Maildir in memory.
-use Rattle.std.specs.Prelude.{◌≡◌, ℕ, Bool, true, false, List, [], ◌∷◌, Option, Some, None, string_bytes}
+use Rattle.std.specs.{
+  Prelude.{◌≡◌, ◌&&◌, ℕ, Bool, true, false, List, [], ◌∷◌, Option, Some, None},
+  Prelude.{bytes_eq, length, option_map, string_bytes},
+  List.find,
+}
+use Rattle.mail_store.specs.declared.maildir.disk.Folder.TheVariants.{New}
 use Rattle.test_devices.specs.declared.memory_folders.StoredMail.{StoredMail}
-use Rattle.folder_store.specs.{MailFolders.MailFile, MailPower.IsMailLeftAs}
+use Rattle.folder_store.specs.{MailFolders.{Directories, MailFile, is_told}, MailPower.IsMailLeftAs}
 
 -- a file
 abbrev pub stored_file : StoredMail → MailFile
@@ -15,6 +20,14 @@ stored_file k = record {
   left_cur = k.left_cur;
   is_gone = k.is_gone;
 }
+
+-- it has a name in `new`, and no reader took it away
+abbrev pub is_new_at : List ℕ → MailFile → Bool
+is_new_at name s = is_told New s && bytes_eq s.name name
+
+-- how many bytes the first file with a name in `new` has, if one has it
+abbrev pub size_in_new : List ℕ → Directories → Option ℕ
+size_in_new name d = option_map (λ s. length s.content) (find (is_new_at name) d.entries)
 
 -- one thing, or none
 abbrev pub list_of : {A : Type 0} → Option A → List A

@@ -14,7 +14,7 @@ ghost use Rattle.folder_store.specs.{
   MailFolders.{touches, unopened_in},
   MailPower.{EntriesLeftAs, LosesMail},
 };
-ghost use Rattle.test_devices.specs.{MemoryFolder.made_of, MemoryFolders.{list_of, stored_file}};
+ghost use Rattle.test_devices.specs.{MemoryFolder.made_of, MemoryFolders.{list_of, size_in_new, stored_file}};
 
 use crate::new_file::MemoryNewFile;
 use folder_store::{FolderMaildir, FoundNames, MailFolders, Sought, readers_move};
@@ -258,7 +258,7 @@ fn name_for(alloc: Global, name: &str, is_new: bool) -> Result<String, AllocErro
 }
 
 impl StoredMail {
-    ghost use Rattle.test_devices.specs.MemoryFolders.{MayBeLeftAs, left_with, stored_file};
+    ghost use Rattle.test_devices.specs.MemoryFolders.{MayBeLeftAs, is_new_at, left_with, stored_file};
 
     fn is_in(&self, folder: Folder) -> bool
         ensures { result ≡ is_in folder (stored_file self.now) }
@@ -274,6 +274,13 @@ impl StoredMail {
         ensures { result ≡ is_told folder (stored_file self.now) }
     {
         !self.is_gone && self.is_in(folder)
+    }
+
+    // Whether it has a name in `new`, and wasn't taken away.
+    fn is_new_at(&self, name: &str) -> bool
+        ensures { result ≡ is_new_at name.now (stored_file self.now) }
+    {
+        self.is_told(Folder::New) && self.name.as_str() == name
     }
 
     // Whether it is in the folder, or left it since the names there were last flushed.
@@ -668,14 +675,14 @@ impl MemoryFolders {
         Ok(())
     }
 
-    // How many octets the file with a name in `new` has. None if what can't be opened has it.
-    pub(crate) fn size_in_new(&self, name: &str) -> Option<u64> {
-        for file in &self.files {
-            if file.is_told(Folder::New) && file.name.as_str() == name {
-                return Some(file.content.len() as u64);
-            }
+    // How many octets the first file with a name in `new` has, if one has it.
+    pub(crate) fn size_in_new(&self, name: &str) -> Option<u64>
+        ensures { result ≡ size_in_new name.now self.now }
+    {
+        match self.files.iter().find(|file| file.is_new_at(name)) {
+            Some(file) => Some(file.content.as_slice().len() as u64),
+            None => None,
         }
-        None
     }
 
     // Whether what can't be opened has a name in `new`.
