@@ -2,8 +2,11 @@
 
 A line is a call's name, the number of a handle or `-`, and a path, octets or a number. Handles are numbered in the order in
 which they were asked for: files that were made, and what was opened. A file is made at a path that no other call is given
-and renamed once, and files are asked for by one path; the rest is at random, also what is refused.
+and renamed once, and files are asked for by one path; the rest is at random, also what is refused. Another process puts
+files under their names between the calls.
 """
+
+from probe.comparing import CallList, put
 
 NAMES = ("a", "b")
 SCRIPT = "abcdefghijklmnopqrstuvwxyz"
@@ -28,14 +31,15 @@ CASES = {
     "ftruncate": ("shorter", "as it is", "longer", "replaced", "opened to read", "after a rename elsewhere"),
     "fsync": ("file", "replaced", "opened to read"),
     "fsync-folder": ("folder",),
+    "other": ("free", "in place of a file", "in place of an open file"),
 }
 
 
 class File:
     """What is known of a file: how many octets it has, and what was done to it last."""
 
-    def __init__(self):
-        self.size = 0
+    def __init__(self, size=0):
+        self.size = size
         self.is_cut = False
         self.writer = None
 
@@ -49,21 +53,16 @@ class Handle:
         self.was_past_end = False
 
 
-class Builder:
-    """A list that grows line by line. `cases` has the case of each line."""
-
+class Builder(CallList):
     def __init__(self, source, folder):
-        self.source, self.folder = source, folder
-        self.lines, self.cases = [], []
+        super().__init__(CASES, source, folder)
         self.named, self.made, self.opened = {}, [], []
         self.ready, self.gone = [], []
         self.turn = 0
         self.ends_from = None
 
-    def add(self, call, number, word, case):
-        assert case in CASES[call], (call, case)
-        self.lines.append(f"{call} {number} {word}")
-        self.cases.append((call, case))
+    def text(self):
+        return text_of(self.folder, self.lines)
 
     def path(self, name):
         return f"{self.folder}/{name}"
@@ -100,14 +99,24 @@ class Builder:
             return
         self.ready.remove(number)
         name = self.source.choice(NAMES)
-        if any(handle.file is self.named.get(name) for handle in self.opened if handle and handle.file):
-            case = "in place of an open file"
-        else:
-            case = "in place of a file" if name in self.named else "free"
-        self.add("rename", number, self.path(name), case)
+        self.add("rename", number, self.path(name), self.replacing(name))
         self.gone.append((number, "renamed away"))
-        self.named[name] = self.made[number]
+        self.name(name, self.made[number])
+
+    def replacing(self, name):
+        """What a file is put in the place of."""
+        if any(handle.file is self.named.get(name) for handle in self.opened if handle and handle.file):
+            return "in place of an open file"
+        return "in place of a file" if name in self.named else "free"
+
+    def name(self, name, file):
+        self.named[name] = file
         self.turn += 1
+
+    def put_as_other(self):
+        name, octets = self.source.choice(NAMES), self.octets()
+        self.let_other((put, self.folder / name, octets), f"{self.path(name)} {octets}", self.replacing(name))
+        self.name(name, File(len(octets)))
 
     def unlink(self):
         number = self.source.choice(self.ready)
@@ -231,7 +240,7 @@ class Builder:
 
     def choices(self):
         """The calls that can be made now, as often as they shall come."""
-        calls = [self.create] * 3 + [self.stat]
+        calls = [*[self.create] * 3, self.stat, self.put_as_other]
         if self.ready:
             calls += [*[self.write_made] * 4, self.flush_made, *[self.rename] * 4, *[self.unlink] * self.source.randrange(2)]
         if self.named:
@@ -250,6 +259,10 @@ class Builder:
                 self.opened.append(Handle(name, self.named[name], False, self.turn))
                 for _ in range(self.named[name].size // MOST + 1):
                     self.read_by(len(self.opened) - 1, MOST)
+
+
+def text_of(folder, lines):
+    return "".join(f"{line}\n" for line in [str(folder), *lines])
 
 
 def random_list(source, folder):

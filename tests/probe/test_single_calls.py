@@ -5,23 +5,12 @@ what the devices take for granted: each answer must be the same, and so must the
 folders of other file systems.
 """
 
-import collections
-import os
-import random
-import tempfile
 import unittest
 from pathlib import Path
 
-from harness import programs
-from probe import call_lists
+from probe.call_lists import CASES, random_list, text_of
+from probe.comparing import COUNT, answers, compare, compare_random
 from probe.watched import folder_for
-
-COUNT = int(os.environ.get("CALL_LISTS", "500"))
-AT_ONCE = 500
-SECONDS = 600
-NEXT = "next\n"
-# A file system in memory and that of temporary files, unless others are named.
-FOLDERS = os.environ.get("CALL_FOLDERS", f"/dev/shm:{tempfile.gettempdir()}").split(":")
 
 # What the calls' promises don't cover, and the model has in another way: lines, and what the system and the model answer to
 # the last one. A name that ends in `->a` is a link to `a`.
@@ -37,37 +26,23 @@ OUTSIDE = {
 }
 
 
-def text_of(folder, lines):
-    return "".join(f"{line}\n" for line in [str(folder), *lines])
-
-
 def in_folder(folder, line):
     """The line with the folder before its path."""
     call, number, word = line.split(" ")
     return f"{call} {number} {folder}/{word}" if call in ("create", "rename", "stat") else line
 
 
-def answers(system, texts):
-    """What the program answers to each list, line by line."""
-    with tempfile.NamedTemporaryFile("w") as file:
-        file.write(NEXT.join(texts))
-        file.flush()
-        run = programs.run("probe", system, file.name, seconds=SECONDS)
-    assert (run.status, run.err) == (0, b""), run
-    return [answer.splitlines() for answer in run.out.decode().split(NEXT)[:-1]]
-
-
 def files_told(built, told):
     """The files that are there at the end, by the answers, and the names of those that were made and have no other name."""
     made, found, name = [], {}, None
     for line, answer in zip(built.lines, told):
-        call, number, word = line.split(" ")
+        call, number, word = line.split(" ", 2)
         if call == "create":
             made.append(Path(word).name if answer == "done" else None)
         elif call in ("rename", "unlink") and answer == "done":
             made[int(number)] = None
     for line, answer in zip(built.lines[built.ends_from:], told[built.ends_from:]):
-        call, _, word = line.split(" ")
+        call, _, word = line.split(" ", 2)
         if call == "open":
             name = Path(word).name
             found[name] = ""
@@ -77,31 +52,16 @@ def files_told(built, told):
 
 
 class SingleCalls(unittest.TestCase):
-    def compare(self, folder, first, count):
-        """Makes lists in a folder and in memory, and answers how often each case occurred."""
-        built = [call_lists.random_list(random.Random(seed), folder / str(seed)) for seed in range(first, first + count)]
+    def compare(self, built):
         for one in built:
             one.folder.mkdir()
-        texts = [text_of(one.folder, one.lines) for one in built]
-        cases = collections.Counter()
-        for one, told, wanted in zip(built, answers("machine", texts), answers("memory", texts), strict=True):
-            for line, case, *both in zip(one.lines, one.cases, told, wanted, strict=True):
-                self.assertEqual(*both, f"{one.folder}: {line}: {case}")
+        for one, wanted in compare(self, ("machine", "memory"), built):
             found, unnamed = files_told(one, wanted)
             self.assertEqual({path.name for path in one.folder.iterdir()}, set(found) | unnamed, one.folder)
             self.assertEqual({name: (one.folder / name).read_text() for name in found}, found, one.folder)
-            cases.update(one.cases)
-        return cases
 
     def test_random_lists(self):
-        wanted = [(call, case) for call, cases in call_lists.CASES.items() for case in cases]
-        for place in FOLDERS:
-            with self.subTest(place):
-                cases = collections.Counter()
-                for first in range(0, COUNT, AT_ONCE):
-                    with tempfile.TemporaryDirectory(dir=place) as folder:
-                        cases += self.compare(Path(folder).resolve(), first, min(AT_ONCE, COUNT - first))
-                self.assertEqual([case for case in wanted if not cases[case]], [])
+        compare_random(self, COUNT, random_list, CASES, self.compare)
 
     def test_what_is_outside_of_the_promises(self):
         for name, (lines, machine, memory) in OUTSIDE.items():

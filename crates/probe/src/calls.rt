@@ -2,6 +2,7 @@
 
 ghost use Rattle.std.specs.Prelude.{◌≡◌, ◌<◌, length};
 
+use crate::shared;
 use crate::trouble::{Result, Trouble};
 use folder_store::{Access, FileCalls, FileKind, FileStat, HostCalls, MadeHandle};
 use std::alloc::Global;
@@ -16,6 +17,15 @@ const NEXT: &str = "next\n";
 /// The most octets that are read at once.
 const ROOM: usize = 64;
 
+/// What makes the calls of a list.
+pub trait Player {
+    /// Makes the call of a line.
+    fn call_line(&mut self, words: (&str, &str, &str), answers: &mut Vec<u8>) -> Result<()>;
+
+    /// Does in memory what the other process does.
+    fn act_as_other(&mut self, word: &str) -> Result<()>;
+}
+
 /// What a list made and opened, in the order in which it asked for that. None is what was refused.
 #[derive(Drop)]
 struct Handles<C: FileCalls> {
@@ -23,8 +33,16 @@ struct Handles<C: FileCalls> {
     opened: Vec<Option<C::File>>,
 }
 
+/// A file system, and what a list did with it.
+#[derive(Drop)]
+struct FilePlayer<C: FileCalls> {
+    alloc: Global,
+    calls: C,
+    handles: Handles<C>,
+}
+
 /// How a refusal is told.
-fn word_of(denial: &Denial) -> &str {
+pub fn word_of(denial: &Denial) -> &str {
     match denial.kind() {
         ErrorKind::NotFound => "absent",
         ErrorKind::Interrupted => "interrupted",
@@ -33,7 +51,7 @@ fn word_of(denial: &Denial) -> &str {
 }
 
 /// Adds the answer of a call that only does something.
-fn tell_done(answers: &mut Vec<u8>, answer: std::result::Result<(), Denial>) -> Result<()> {
+pub fn tell_done(answers: &mut Vec<u8>, answer: std::result::Result<(), Denial>) -> Result<()> {
     match answer {
         Ok(()) => writeln!(answers, "done")?,
         Err(denial) => writeln!(answers, "{}", word_of(&denial))?,
@@ -42,7 +60,7 @@ fn tell_done(answers: &mut Vec<u8>, answer: std::result::Result<(), Denial>) -> 
 }
 
 /// Adds the answer of a call that writes.
-fn tell_count(answers: &mut Vec<u8>, answer: std::result::Result<usize, Denial>) -> Result<()> {
+pub fn tell_count(answers: &mut Vec<u8>, answer: std::result::Result<usize, Denial>) -> Result<()> {
     match answer {
         Ok(count) => writeln!(answers, "{count}")?,
         Err(denial) => writeln!(answers, "{}", word_of(&denial))?,
@@ -51,7 +69,10 @@ fn tell_count(answers: &mut Vec<u8>, answer: std::result::Result<usize, Denial>)
 }
 
 /// Adds what is told of a file.
-fn tell_stat(answers: &mut Vec<u8>, answer: std::result::Result<FileStat, Denial>) -> Result<()> {
+pub fn tell_stat(
+    answers: &mut Vec<u8>,
+    answer: std::result::Result<FileStat, Denial>,
+) -> Result<()> {
     match answer {
         Ok(found) => match found.kind {
             FileKind::File => writeln!(answers, "file {}", found.len)?,
@@ -64,7 +85,7 @@ fn tell_stat(answers: &mut Vec<u8>, answer: std::result::Result<FileStat, Denial
 }
 
 /// Keeps what was made or opened, if it was, and adds the answer.
-fn keep<T: Drop>(
+pub fn keep<T: Drop>(
     handles: &mut Vec<Option<T>>,
     answers: &mut Vec<u8>,
     answer: std::result::Result<T, Denial>,
@@ -83,7 +104,7 @@ fn keep<T: Drop>(
 }
 
 /// Takes a handle out, if it is there.
-fn taken<T: Drop>(handles: &mut Vec<Option<T>>, number: &str) -> Result<Option<T>> {
+pub fn taken<T: Drop>(handles: &mut Vec<Option<T>>, number: &str) -> Result<Option<T>> {
     let number: usize = number.parse()?;
     match handles.get_mut(number) {
         Some(handle) => Ok(handle.take()),
@@ -92,7 +113,7 @@ fn taken<T: Drop>(handles: &mut Vec<Option<T>>, number: &str) -> Result<Option<T
 }
 
 /// Puts a handle back.
-fn put_back<T: Drop>(handles: &mut Vec<Option<T>>, number: &str, handle: T) -> Result<()> {
+pub fn put_back<T: Drop>(handles: &mut Vec<Option<T>>, number: &str, handle: T) -> Result<()> {
     let number: usize = number.parse()?;
     if let Some(room) = handles.get_mut(number) {
         *room = Some(handle);
@@ -234,25 +255,78 @@ fn words_of(line: &str) -> Option<(&str, &str, &str)> {
     Some((call, number, word))
 }
 
-/// Makes the calls of a list, and adds the answers.
-fn play<C: FileCalls + Drop>(
-    alloc: Global,
-    mut calls: C,
+/// Makes a file with these octets, and gives it a name.
+fn put_file<C: FileCalls>(alloc: Global, calls: &mut C, path: &str, octets: &str) -> Result<()> {
+    let beside = format!(in alloc; "{path}.other")?;
+    let mut file = calls.create(beside.as_str())?;
+    file.write(octets.as_bytes())?;
+    calls.rename(&file, path)?;
+    Ok(())
+}
+
+impl<C: FileCalls> Player for FilePlayer<C> {
+    fn call_line(&mut self, words: (&str, &str, &str), answers: &mut Vec<u8>) -> Result<()> {
+        call_line(&mut self.calls, &mut self.handles, words, answers)
+    }
+
+    fn act_as_other(&mut self, word: &str) -> Result<()> {
+        let (path, octets) = word.split_once(' ').unwrap_or((word, ""));
+        put_file(self.alloc, &mut self.calls, path, octets)
+    }
+}
+
+/// Waits until the other process has done what it does next: a named pipe beside the folder, one of two in turn, ends.
+fn wait(rt: &HostRuntime, folder: &str, turn: &str) -> Result<()> {
+    let path = format!(in rt.alloc(); "{folder}.{turn}")?;
+    fs::read_to_string(rt, path.as_str())?;
+    Ok(())
+}
+
+/// Makes the calls of a list, and adds the answers. If it is in a folder of the machine, another process acts between
+/// them.
+pub fn play<P: Player>(
+    rt: &HostRuntime,
+    folder: Option<&str>,
+    player: &mut P,
     list: &str,
     answers: &mut Vec<u8>,
 ) -> Result<()> {
-    let mut handles = Handles {
-        made: Vec::new(alloc),
-        opened: Vec::new(alloc),
-    };
     for line in list.lines() {
         let Some(words) = words_of(line) else {
             return Err(Trouble::Other);
         };
-        call_line(&mut calls, &mut handles, words, answers)?;
+        if words.0 != "other" {
+            player.call_line(words, answers)?;
+            continue;
+        }
+        match folder {
+            Some(folder) => wait(rt, folder, words.1)?,
+            None => player.act_as_other(words.2)?,
+        }
+        writeln!(answers, "other")?;
     }
-    answers.extend_from_slice(NEXT.as_bytes())?;
     Ok(())
+}
+
+/// Makes the calls of a list on a file system.
+fn play_files<C: FileCalls + Drop>(
+    rt: &HostRuntime,
+    folder: Option<&str>,
+    calls: C,
+    list: &str,
+    answers: &mut Vec<u8>,
+) -> Result<()> {
+    let alloc = rt.alloc();
+    let handles = Handles {
+        made: Vec::new(alloc),
+        opened: Vec::new(alloc),
+    };
+    let mut player = FilePlayer {
+        alloc,
+        calls,
+        handles,
+    };
+    play(rt, folder, &mut player, list, answers)
 }
 
 /// Makes the calls of a list on the machine or in memory.
@@ -260,18 +334,22 @@ fn play_on(rt: &HostRuntime, system: &str, list: &str, answers: &mut Vec<u8>) ->
     let Some((folder, list)) = list.split_once('\n') else {
         return Err(Trouble::Other);
     };
-    if system == "memory" {
-        let folder = String::from_str(rt.alloc(), folder)?;
-        return play(
-            rt.alloc(),
-            MemoryCalls::new(rt.alloc(), folder),
+    let refusals = Refusals::new(rt.alloc(), None);
+    let machine = System::new(rt, &refusals);
+    match system {
+        "machine" => play_files(
+            rt,
+            Some(folder),
+            HostCalls { system: &machine },
             list,
             answers,
-        );
+        ),
+        "memory" => {
+            let name = String::from_str(rt.alloc(), folder)?;
+            play_files(rt, None, MemoryCalls::new(rt.alloc(), name), list, answers)
+        }
+        _ => shared::play_on(rt, &machine, system, folder, list, answers),
     }
-    let refusals = Refusals::new(rt.alloc(), None);
-    let system = System::new(rt, &refusals);
-    play(rt.alloc(), HostCalls { system: &system }, list, answers)
 }
 
 /// Makes the calls of each list of a file, and prints the answers. The first line of a list is its folder, which holds
@@ -281,6 +359,7 @@ pub fn play_lists(rt: &HostRuntime, system: &str, lists: &str) -> Result<()> {
     let mut answers = Vec::new(rt.alloc());
     for list in text.as_str().split(NEXT) {
         play_on(rt, system, list, &mut answers)?;
+        answers.extend_from_slice(NEXT.as_bytes())?;
     }
     rt.stdout().write_all(&answers)?;
     Ok(())

@@ -7,6 +7,7 @@ mod conversation;
 mod judging;
 mod mbox;
 mod record;
+mod shared;
 mod stopwatch;
 mod stores;
 mod trouble;
@@ -16,7 +17,10 @@ use std::env;
 use std::process::ExitCode;
 
 fn tell_usage(rt: &HostRuntime) -> Result<()> {
-    println!(rt; "usage: probe client, or judge|machine|memory FILE, or session|read COUNT,")?;
+    println!(rt;
+        "usage: probe client, or judge|machine|memory|shared-machine|shared-memory FILE,"
+    )?;
+    println!(rt; "       or session|read COUNT,")?;
     println!(rt; "       or held|deliver|rewrite|append|blocks|sweep|texts|quote PATH COUNT")?;
     Ok(())
 }
@@ -38,7 +42,9 @@ fn use_record(rt: &HostRuntime, call: &str, subject: &str) -> Result<()> {
         "session" => record::time_session(rt, subject.parse()?),
         "read" => record::time_read(rt, subject.parse()?),
         "judge" => judging::judge(rt, subject),
-        "machine" | "memory" => calls::play_lists(rt, call, subject),
+        "machine" | "memory" | "shared-machine" | "shared-memory" => calls::play_lists(
+            rt, call, subject,
+        ),
         _ => tell_usage(rt),
     }
 }

@@ -26,7 +26,7 @@ pub fn mark_of(rt: &HostRuntime) -> Result<ProcessMark> {
 }
 
 /// The listing of messages 1 to `count`.
-fn listing_of(alloc: Global, count: u32) -> Result<Listing> {
+pub fn listing_of(alloc: Global, count: u32) -> Result<Listing> {
     let mut uids = UidRows::new(alloc);
     for number in 1..=count {
         add_row(&mut uids, number, id_of(alloc, number)?.as_bytes())?;

@@ -6,6 +6,7 @@ use mail_terms::ListingFault;
 use std::alloc::{AllocError, AllocFailed};
 use std::io;
 use std::num::ParseIntError;
+use system_calls::Denial;
 
 /// A refusal by a store, which is told, or anything else.
 #[derive(Clone, Copy)]
@@ -39,6 +40,12 @@ impl From<AllocError> for Trouble {
 
 impl<T: Drop> From<AllocFailed<T>> for Trouble {
     fn from(_error: AllocFailed<T>) -> Trouble {
+        Trouble::Other
+    }
+}
+
+impl From<Denial> for Trouble {
+    fn from(_denial: Denial) -> Trouble {
         Trouble::Other
     }
 }

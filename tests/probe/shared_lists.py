@@ -1,0 +1,268 @@
+"""Random lists of single calls on the folders `new` and `cur` of a Maildir, with a reader's moves before them, and what case
+each call is.
+
+A line is a call's name, the number of a file that was made or `-`, and a name, a folder, stems or octets. A reader, which is
+another process, moves, marks or takes away at most one file before a call, and never so that a file comes to a name that
+something has; calls on `tmp` it doesn't see.
+"""
+
+import re
+from dataclasses import dataclass, replace
+from pathlib import Path
+
+from probe.call_lists import SCRIPT
+from probe.comparing import CallList
+from probe.watched import name_of
+
+# The names of which a listing tells those that are there, and one that it doesn't.
+NAMES = (*(name_of(number) for number in (1, 2, 3)), "other")
+# What can't be opened has this one in both folders.
+ODD = name_of(4)
+# What marks a file in `cur`.
+MARKS = re.compile(":2,[A-Z]*$")
+
+# Each case that lists have, by the call that it shows.
+CASES = {
+    "create": ("free",),
+    "made-write": ("octets", "nothing"),
+    "made-fsync": ("octets", "nothing"),
+    "link": ("free", "taken", "taken by what can't be opened", "moved away"),
+    "lstat": ("file", "nothing", "what can't be opened", "moved away"),
+    "rename": ("free", "taken", "taken by what can't be opened", "moved away"),
+    "unlink": ("made", "linked"),
+    "stat": ("never listed", "rests", "changed"),
+    "list": ("new", "cur", "something went"),
+    "list-all": ("new", "cur", "something went"),
+    "look": ("file", "what can't be opened", "moved away"),
+    "flush-files": ("one", "several"),
+    "fsync-folder": ("new", "cur"),
+    "other": ("to cur", "to new", "another mark", "away from new", "away from cur"),
+}
+
+
+@dataclass
+class File:
+    """A file, and the name that it had first in `new`; its marks if it is in `cur`, and whether it is still there."""
+
+    folder: str
+    base: str
+    octets: str
+    marks: str = "S"
+    is_gone: bool = False
+
+    @property
+    def path(self):
+        return f"new/{self.base}" if self.folder == "new" else f"cur/{self.base}:2,{self.marks}"
+
+
+class Builder(CallList):
+    """`steps` is what the reader does before each call that it may precede."""
+
+    def __init__(self, source, folder):
+        super().__init__(CASES, source, folder)
+        # In folders with what can't be opened, names aren't listed whatever they lead to: the model leaves those out.
+        self.obstacles = [ODD][:source.randrange(2)]
+        self.steps, self.made, self.ready, self.linked = [], [], [], []
+        # The files by their places in memory, where one that was taken away stays until a folder is listed.
+        self.files = []
+        self.rests = {"new": None, "cur": None}
+        self.told = {"new": [], "cur": []}
+        self.left = set()
+
+    def text(self):
+        return text_of(self.folder, self.steps, self.obstacles, self.lines)
+
+    # ---- what is there
+
+    def there(self):
+        return [file for file in self.files if not file.is_gone]
+
+    def paths(self):
+        return {file.path for file in self.there()}
+
+    def touch(self, *folders):
+        """These folders don't rest."""
+        for folder in folders:
+            if self.rests[folder]:
+                self.rests[folder] = False
+
+    def at(self, name, free):
+        """The case of a name in `new`."""
+        if name in self.obstacles:
+            return "what can't be opened" if free == "nothing" else "taken by what can't be opened"
+        if f"new/{name}" in self.paths():
+            return "file" if free == "nothing" else "taken"
+        return "moved away" if f"new/{name}" in self.left else free
+
+    # ---- the reader
+
+    def let_reader_move(self):
+        """What the reader does before the next call."""
+        place = self.source.randrange(len(self.files)) if self.files and self.source.randrange(4) == 0 else None
+        if place is None or self.files[place].is_gone:
+            self.steps.append("rest")
+        elif self.source.randrange(4) == 0:
+            self.take(place)
+        else:
+            self.move(place)
+
+    def take(self, place):
+        file = self.files[place]
+        self.steps.append(f"away:{place}")
+        self.let_other((Path.unlink, self.folder / file.path), file.path, f"away from {file.folder}")
+        self.left.add(file.path)
+        self.touch(file.folder)
+        file.is_gone = True
+
+    def move(self, place):
+        file = self.files[place]
+        to = self.source.choice(("new", "cur")) if file.folder == "cur" else "cur"
+        moved = replace(file, folder=to, marks=self.source.choice(("S", "FS")))
+        if moved.path in self.paths():
+            self.steps.append("rest")
+            return
+        self.steps.append(f"{to}:{place}")
+        self.let_other((Path.rename, self.folder / file.path, self.folder / moved.path), f"{file.path} {moved.path}",
+                       f"to {to}" if to != file.folder else "another mark")
+        self.left.add(file.path)
+        self.touch(file.folder, to)
+        self.files[place] = moved
+
+    # ---- files without a name
+
+    def create(self):
+        self.add("create", "-", f"made-{len(self.made)}", "free")
+        self.ready.append(len(self.made))
+        self.made.append("")
+
+    def write(self):
+        number = self.source.choice(self.ready)
+        octets = SCRIPT[:self.source.choice((0, 1, 5, 12))]
+        self.add("made-write", number, octets, "octets" if octets else "nothing")
+        self.made[number] += octets
+
+    def flush(self):
+        number = self.source.choice(self.ready)
+        self.add("made-fsync", number, "-", "octets" if self.made[number] else "nothing")
+
+    def name(self):
+        return self.source.choice((*NAMES, *NAMES, ODD))
+
+    def put(self, call):
+        """Gives a file that was made a name, if that is free; answers whether it has it."""
+        self.let_reader_move()
+        number, name = self.source.choice(self.ready), self.name()
+        case = self.at(name, "free")
+        self.add(call, number, name, case)
+        if case in ("free", "moved away"):
+            self.ready.remove(number)
+            self.files.append(File("new", name, self.made[number]))
+            self.touch("new")
+            return number
+        return None
+
+    def link(self):
+        number = self.put("link")
+        if number is not None:
+            self.linked.append(number)
+
+    def rename(self):
+        self.put("rename")
+
+    def unlink(self):
+        number = self.source.choice([*self.ready, *self.linked])
+        self.add("unlink", number, "-", "linked" if number in self.linked else "made")
+        (self.linked if number in self.linked else self.ready).remove(number)
+
+    # ---- folders
+
+    def lstat(self):
+        self.let_reader_move()
+        name = self.name()
+        self.add("lstat", "-", name, self.at(name, "nothing"))
+
+    def stat(self):
+        self.let_reader_move()
+        folder = self.source.choice(("new", "cur"))
+        cases = {None: "never listed", True: "rests", False: "changed"}
+        self.add("stat", "-", folder, cases[self.rests[folder]])
+
+    def list(self):
+        self.let_reader_move()
+        self.list_one(self.source.choice(("new", "cur")))
+
+    def list_one(self, folder):
+        lists_all = not self.obstacles and self.source.randrange(3) == 0
+        self.add("list-all" if lists_all else "list", "-", folder,
+                 "something went" if len(self.there()) < len(self.files) else folder)
+        self.files = self.there()
+        self.rests[folder] = True
+        self.told[folder] = [*(file.path for file in self.files
+                               if file.folder == folder and (lists_all or file.base != "other")),
+                             *(f"{folder}/{obstacle}" for obstacle in self.obstacles)]
+
+    def look(self):
+        self.let_reader_move()
+        folder = self.source.choice([folder for folder in ("new", "cur") if self.told[folder]])
+        path = self.source.choice(self.told[folder])
+        there = "file" if path in self.paths() else "moved away"
+        self.add("look", "-", path, "what can't be opened" if Path(path).name in self.obstacles else there)
+
+    def flush_files(self):
+        self.let_reader_move()
+        bases = sorted({file.base for file in self.there()})
+        chosen = self.source.sample(bases, min(len(bases), self.source.choice((1, 2)))) if bases else []
+        if not chosen:
+            # The reader's step is that of another call.
+            self.add("stat", "-", "new", {None: "never listed", True: "rests", False: "changed"}[self.rests["new"]])
+            return
+        stems = [base.split(",")[0] for base in chosen]
+        self.add("flush-files", "-", " ".join(stems), "one" if len(stems) == 1 else "several")
+
+    def fsync_folder(self):
+        self.let_reader_move()
+        folder = self.source.choice(("new", "cur"))
+        self.add("fsync-folder", "-", folder, folder)
+
+    # ---- all
+
+    def choices(self):
+        """The calls that can be made now, as often as they shall come."""
+        calls = [*[self.create] * 3, self.lstat, self.stat, self.list, self.fsync_folder]
+        if self.ready:
+            calls += [*[self.write] * 2, self.flush, *[self.link] * 4, *[self.rename] * 3]
+        if self.ready or self.linked:
+            calls.append(self.unlink)
+        if self.told["new"] or self.told["cur"]:
+            calls += [*[self.look] * 2, *[self.stat] * 2]
+        if self.there():
+            calls.append(self.flush_files)
+        return calls
+
+    def end(self):
+        """Both folders are listed."""
+        for folder in ("new", "cur"):
+            self.steps.append("rest")
+            self.list_one(folder)
+
+
+def make_maildir(folder, obstacles):
+    """What can't be opened, links to themselves, has names in `new` and in `cur`."""
+    for name in ("tmp", "new", "cur"):
+        (folder / name).mkdir(parents=True)
+    for name in ("new", "cur"):
+        for obstacle in obstacles:
+            (folder / name / obstacle).symlink_to(obstacle)
+
+
+def text_of(folder, steps, obstacles, lines):
+    front = [str(folder), " ".join(steps or ["rest"]), " ".join(obstacles)]
+    return "".join(f"{line}\n" for line in [*front, *lines])
+
+
+def random_list(source, folder):
+    builder = Builder(source, folder)
+    for _ in range(source.choice((5, 15, 30))):
+        source.choice(builder.choices())()
+    builder.end()
+    return builder
