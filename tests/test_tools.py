@@ -216,8 +216,8 @@ def test_contracts(sources):
 
 
 def test_axioms(sources):
-    """What is assumed of a device is what its trait says under the premise, but of a body in the trait; the code for it is
-    uncovered, and so is what has no contract."""
+    """What is assumed of a device is what its trait says under the premise, unless the call's body is in the trait; the code
+    for it is uncovered, and so is what has no contract."""
     programs = axioms.Programs(sources, ["low", "high"])
     assert [line.split() for line in axioms.assumptions(programs) if line] == [
         "Real, a Device (crates/high/src/device.rt): 1 clauses are assumed, 4 are proved".split(),

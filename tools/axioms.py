@@ -39,11 +39,12 @@ PINS_NOTHING = re.compile(r"Tallies .*|self\.new ≡ record self\.old \{ failure
 ASSUMED = """\
 1. Devices of which nothing is known: `sound`, their premise, is ⊥. The code over them is generic, and proved for each
    device that does what its trait says. So each clause of the trait that holds only where `sound` does is assumed of
-   them, but of a call that has its body in the trait. It is printed without the words `sound self.new → sound self.old ×`
-   before it. docs/STATEMENT.txt has the traits Wire, MaildirDisk and FlatFile with what their names mean, and 9 has the
-   others. What can't be opened may come to the folders and go at any moment, so no clause says where such names
-   (`closed_new`, `closed_cur`) come from. Of CallsShared it is assumed that a listing shows exactly those that are there
-   then (`ListsIn`): a message whose name is one isn't fetched. All that is above it is proved to tell just these."""
+   them, unless the call's body is in the trait: then it is proved. Each is printed without the words
+   `sound self.new → sound self.old ×` before it. docs/STATEMENT.txt has the traits Wire, MaildirDisk and FlatFile with
+   what their names mean, and 9 has the others. What can't be opened may come to the folders and go at any moment, so no
+   clause says where such names (`closed_new`, `closed_cur`) come from. Of CallsShared it is assumed that a listing shows
+   exactly those that are there then (`ListsIn`): a message whose name is one isn't fetched. All that is above it is
+   proved to tell just these."""
 PREMISES = """\
 2. The premises of the other devices. What their traits say is proved, for one over another device as far as that one
    does what its trait says."""
@@ -190,8 +191,8 @@ class Programs:
                     yield impl, f"crates/{crate}/{file}"
 
     def clauses(self, impl):
-        """What the impl's trait says of each call: the call, the clause's label and text, and whether it is of the call's
-        body in the trait, for which it is proved whatever the premise is."""
+        """What the impl's trait says of each call: the call, the clause's label and text, and whether the call's body is in
+        the trait, so that the clause is proved whatever the premise is."""
         for function in self.traits[impl.trait]:
             is_given = function.text.endswith("}") and not re.search(rf"\bfn {function.name}\b", impl.text)
             yield from ((function.name, label, text, is_given)
