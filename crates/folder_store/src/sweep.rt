@@ -58,7 +58,7 @@ pub trait SweptFolder {
     fn now(&self) -> Result<SystemTime, Denial>
         ensures { IfOk result (time self.now) };
 
-    /// All its names that are UTF-8.
+    /// Its names that are UTF-8, or of these only those that begin so, which take less memory.
     fn names(&self) -> Result<Vec<String>, Denial>
         ensures { IfOk result (λ names. listed self.now (map string_bytes names.items)) };
 
@@ -187,7 +187,10 @@ impl<'a, R: Files + Clock + AllocGlobal + Clone + Drop> SweptFolder for Scratch<
         let mut names = Vec::new(self.system.alloc());
         let entries = fs::read_dir(self.system.rt, self.path);
         for entry in self.system.asked("open", self.path, entries)? {
-            if let Some(entry) = entry_in(self.system, self.path, entry)? {
+            let Some(entry) = entry_in(self.system, self.path, entry)? else {
+                continue;
+            };
+            if entry.file_name().starts_with(self.front) {
                 names.push(String::from_str(self.system.alloc(), entry.file_name())?)?;
             }
         }
