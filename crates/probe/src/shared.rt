@@ -14,6 +14,8 @@ use mail_store::{AccountId, Asked, Folder, account_id};
 use mail_terms::Listing;
 use std::alloc::Global;
 use std::io::{ErrorKind, Write};
+use std::rt::Files;
+use std::time::Clock;
 use system_calls::{Denial, System};
 use test_devices::{MemoryFolders, MemoryShared, ReaderStep};
 
@@ -285,20 +287,20 @@ fn play_in_memory(
 }
 
 /// Makes the calls of a list on the machine.
-fn play_on_machine(
+fn play_on_machine<R: Files + Clock + AllocGlobal + Clone + Drop>(
     rt: &HostRuntime,
-    system: &System<'_, HostRuntime>,
+    system: &System<'_, R>,
     maildir: &str,
     list: &str,
     answers: &mut Vec<u8>,
 ) -> Result<()> {
     let mark = mark_of(rt)?;
-    let calls: HostShared<'_, HostRuntime> = CallsShared {
+    let calls: HostShared<'_, R> = CallsShared {
         system,
         new_folder: CallsFolder::of_maildir(system, maildir, "new", mark),
         cur_folder: CallsFolder::of_maildir(system, maildir, "cur", mark),
     };
-    let mut player = player_on(rt.alloc(), calls)?;
+    let mut player = player_on(system.alloc(), calls)?;
     play(rt, Some(maildir), &mut player, list, answers)
 }
 
