@@ -23,9 +23,9 @@ use Rattle.fetch_record.specs.Record.{Row, is_delivered}
 use Rattle.fetch_rules.specs.{
   Due.{is_due, may_delete},
   Laws.{FetchesAsked, FetchesFirsts},
-  Limits.{AllowsAlone, LimitsSizes, SetsLimits, SetsNoLimits},
+  Limits.{AllowsAlone, SetsSizeLimit, SetsLimits, SetsNoLimits},
   Plan.{fetches, is_deleted, may_be_deleted, planned, retrieved, step_of},
-  Wanted.{WantedAreFirst, allows_size, at_most, is_candidate, is_full, is_within, none_odd, own_skip, skip_for, skip_of, up_to},
+  Wanted.{WantedAreFirst, allows_size, at_most, is_candidate, is_full, is_within, none_odd, own_skip, skip_for, skip_of, limit_or_all},
   Wanted.wanted,
   declared.plans.{Skip.{Skip, TheVariants.{Delivered, Obstructed, TooLarge, PastLimit, SameId}}, Step.Step},
 }
@@ -497,12 +497,12 @@ wanted-first settings is_odd rows listing distinct =
 
 -- ---- what the rules are under limits that are known
 
-pub sizes_within : (settings : Settings) (limit : ℕ) → LimitsSizes settings limit → (size : ℕ)
+pub sizes_within : (settings : Settings) (limit : ℕ) → SetsSizeLimit settings limit → (size : ℕ)
     → allows_size settings size ≡ is_within limit size
 sizes_within settings limit limits size = rw limits refl
 
 pub at_most_firsts : {X : Type 0} {settings : Settings} {size count : ℕ} → SetsLimits settings size count → (size_of : X → ℕ) (xs : List X)
-    (n : ℕ) → length xs ≤ n → at_most settings size_of xs ≡ take (up_to count n) xs
+    (n : ℕ) → length xs ≤ n → at_most settings size_of xs ≡ take (limit_or_all count n) xs
 at_most_firsts {count = count} limits size_of xs n fits = rw limits.number (elim (cases_Bool (count == 0)) [
   | inl none ↦ rw none (take_all _ xs (omega (arith, length-map xs size_of)) ∙ sym (take_all n xs fits))
   | inr some ↦ rw some refl

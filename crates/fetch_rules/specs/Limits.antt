@@ -4,15 +4,15 @@ use Rattle.rc_file.specs.declared.settings.Settings.{Settings}
 use Rattle.fetch_rules.specs.Wanted.{allows_size}
 
 -- this is the limit on a message's size, and there is no other limit on a message; 0 is none
-abbrev pub LimitsSizes : Settings → ℕ → Type 0
-LimitsSizes settings limit = settings.max_size ≡ limit
+abbrev pub SetsSizeLimit : Settings → ℕ → Type 0
+SetsSizeLimit settings limit = settings.max_size ≡ limit
 
--- so it is, and this is the limit on how many messages a session fetches, and it has no other; 0 is none
+-- these are the limits on a message's size and on how many messages a session fetches, and there is no other; 0 is none
 pub record SetsLimits (settings : Settings) (size count : ℕ) : Type 0 where
-  pub sizes : LimitsSizes settings size
+  pub sizes : SetsSizeLimit settings size
   pub number : settings.max_count ≡ count
 
--- there are none
+-- there is no limit on what a session fetches
 abbrev pub SetsNoLimits : Settings → Type 0
 SetsNoLimits settings = SetsLimits settings 0 0
 

@@ -23,12 +23,12 @@ abbrev pub is_full : Settings → ℕ → Bool
 is_full settings count = not (settings.max_count == 0) && nat_le settings.max_count count
 
 -- how many of so many messages a limit on their number leaves, or more; 0 sets none
-abbrev pub up_to : ℕ → ℕ → ℕ
-up_to limit count = if limit == 0 then count else limit
+abbrev pub limit_or_all : ℕ → ℕ → ℕ
+limit_or_all limit count = if limit == 0 then count else limit
 
 -- how many of messages of these listed sizes a session fetches if it may fetch all, or more
 abbrev pub fitting : Settings → List ℕ → ℕ
-fitting settings sizes = up_to settings.max_count (length sizes)
+fitting settings sizes = limit_or_all settings.max_count (length sizes)
 
 -- the first of a list of messages, as many as a session fetches if it may fetch all
 abbrev pub at_most : {X : Type 0} → Settings → (X → ℕ) → List X → List X

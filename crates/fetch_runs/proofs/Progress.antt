@@ -10,7 +10,7 @@ use Rattle.std.{
 use Rattle.pop3_wire.specs.{declared.wire.Wire.Ghosts as WireGhosts, World.Message}
 use Rattle.mail_terms.specs.UniqueId.{has_id}
 use Rattle.rc_file.specs.declared.settings.Settings.{Settings}
-use Rattle.fetch_rules.{specs.{Limits.LimitsSizes, Wanted.at_most}, proofs.PlanLemmas.{at_most_firsts, sizes_within}}
+use Rattle.fetch_rules.{specs.{Limits.SetsSizeLimit, Wanted.at_most}, proofs.PlanLemmas.{at_most_firsts, sizes_within}}
 use Rattle.fetch_record.specs.{Record.{Intent, Row, is_delivered}, RecordMeaning.FileStandsFor}
 use Rattle.mail_store.specs.{
   Devices.stored_in,
@@ -96,7 +96,7 @@ counted {X} known after k (x ∷ xs) old new = ⊎_elim
 -- ---- one call
 
 -- what it may fetch is what is aimed at and isn't known
-offered_are : (limit : ℕ) (settings : Settings) (is_odd known : List ℕ → Bool) → LimitsSizes settings limit
+offered_are : (limit : ℕ) (settings : Settings) (is_odd known : List ℕ → Bool) → SetsSizeLimit settings limit
     → settings.read_all ≡ false → ((id : List ℕ) → is_odd id ≡ false) → (ms : List Message)
     → filter (may_fetch settings is_odd known) ms ≡ filter (λ (m : Message). is_selected limit m && not (known m.uid)) ms
 offered_are limit settings is_odd known sizes only_new clear [] = refl

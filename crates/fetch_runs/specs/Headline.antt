@@ -8,7 +8,7 @@ use Rattle.pop3_wire.specs.{World.{Message, maildrop_of}, declared.wire.Wire.Gho
 use Rattle.mail_terms.specs.UniqueId.{is_legal_id, has_id}
 use Rattle.rc_file.specs.declared.settings.Settings.{Settings}
 use Rattle.fetch_record.specs.Record.{Intent, is_delivered}
-use Rattle.fetch_rules.specs.Limits.{LimitsSizes}
+use Rattle.fetch_rules.specs.Limits.{SetsSizeLimit}
 use Rattle.mail_store.specs.{
   FileName.{IsAccountText, is_held, stem_of},
   Mboxrd.MboxFile,
@@ -31,7 +31,7 @@ use Rattle.fetch_runs.specs.{
 -- a session's limit on sizes is this one, and its maildrop is a beginning of all mail, without messages of such ids
 pub record IsInOrder (limit : ℕ) (all : List Message) (IsDone : List ℕ → Type 0) (settings : Settings)
     (maildrop : List Message) : Type 0 where
-  pub sizes : LimitsSizes settings limit
+  pub sizes : SetsSizeLimit settings limit
   pub come : ℕ
   pub gone : List (List ℕ)
   pub done : AllByRecursion IsDone gone

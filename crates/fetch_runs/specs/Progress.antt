@@ -7,7 +7,7 @@ use Rattle.std.specs.{
 }
 use Rattle.pop3_wire.specs.{World.Message, declared.wire.Wire.Ghosts as WireGhosts}
 use Rattle.fetch_record.specs.Record.{Row, is_delivered}
-use Rattle.fetch_rules.specs.{Limits.SetsLimits, Wanted.up_to}
+use Rattle.fetch_rules.specs.{Limits.SetsLimits, Wanted.limit_or_all}
 use Rattle.mail_store.specs.{
   Durable.Disk,
   declared.{file.flat_file.FlatFile.Ghosts as FileGhosts, maildir.disk.MaildirDisk.Ghosts as DiskGhosts},
@@ -45,7 +45,7 @@ count_done aim is_done = length (filter (λ (m : Message). is_done m.uid) (aimed
 
 -- how many a call may fetch
 abbrev pub share : Aim → ℕ
-share aim = up_to aim.count_limit (length (aimed aim))
+share aim = limit_or_all aim.count_limit (length (aimed aim))
 
 -- all are done, or at least as many as so many calls may fetch
 abbrev pub IsFar : Aim → ℕ → (List ℕ → Bool) → Type 0
