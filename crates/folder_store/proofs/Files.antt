@@ -117,11 +117,11 @@ put_at old new name bytes file filled e = rw (e, filled) (
     ap (λ (o : Option Blob). disk_of o (older_at name (record { name = name; was = find name old.entries } ∷ old.older)))
     (find_placed name (secured bytes) old.entries) ∙ ap (disk_of (Some (secured bytes))) (older_put name (find name old.entries) old.older))
 
-pub not_replaced : (old new : Directory) (name bytes : List ℕ) (file : MadeFile) (fault x : StoreFault)
-    → file ≡ record { content = bytes; is_flushed = true } → PutsFile {T = Unit {0}} old file name (Err fault) new
+pub not_replaced : (Sound : Type 0) (old new : Directory) (name bytes : List ℕ) (file : MadeFile) (fault x : StoreFault)
+    → (Sound → file ≡ record { content = bytes; is_flushed = true }) → PutsFile {T = Unit {0}} Sound old file name (Err fault) new
     → ReplacesDisk {T = Unit {0}} (disk_at old name) bytes (Err x) (disk_at new name)
-not_replaced old new name bytes file fault x filled (inl same) = inl (ap (λ (d : Directory). disk_at d name) same)
-not_replaced old new name bytes file fault x filled (inr put) = inr (inl (put_at old new name bytes file filled put))
+not_replaced Sound old new name bytes file fault x filled (inl same) = inl (ap (λ (d : Directory). disk_at d name) same)
+not_replaced Sound old new name bytes file fault x filled (inr put) = inr (inl (put_at old new name bytes file (filled put.0) put.1))
 
 pub replaced : (old mid new : Directory) (name bytes : List ℕ) (file : MadeFile) (r : Result Bool StoreFault)
     → file ≡ record { content = bytes; is_flushed = true } → mid ≡ put_in old file name → FlushesNames mid r new

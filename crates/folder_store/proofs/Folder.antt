@@ -53,13 +53,13 @@ part_under Done Part front name old new (Ok done) is = alters_under front name o
 part_under Done Part front name old new (Err fault) is =
     ⊎_elim (λ same. inl (ap (directory_under front) same)) (λ part. inr (alters_under front name old new part)) is
 
-pub puts_under : {T : Type 0} → (front name : List ℕ) (old new : Tree) (file : MadeFile) (r : Result T Denial)
-    → Renames old file (front ++ name) r new
-    → PutsFile (directory_under front old.directory) file name (answered r) (directory_under front new.directory)
-puts_under front name old new file (Ok done) is =
-    ap (λ (t : Tree). directory_under front t.directory) is ∙ put_under front name file old.directory
-puts_under front name old new file (Err d) is = ⊎_elim (λ same. inl (ap (directory_under front) same))
-    (λ put. inr (ap (directory_under front) put ∙ put_under front name file old.directory)) is
+pub puts_under : {T : Type 0} → (Sound : Type 0) (front name : List ℕ) (old new : Tree) (file : MadeFile) (r : Result T Denial)
+    → Renames Sound old file (front ++ name) r new
+    → PutsFile Sound (directory_under front old.directory) file name (answered r) (directory_under front new.directory)
+puts_under Sound front name old new file (Ok done) (sound, is) =
+    (sound, ap (λ (t : Tree). directory_under front t.directory) is ∙ put_under front name file old.directory)
+puts_under Sound front name old new file (Err d) is = ⊎_elim (λ same. inl (ap (directory_under front) same))
+    (λ put. inr (put.0, ap (directory_under front) put.1 ∙ put_under front name file old.directory)) is
 
 -- ---- the names
 

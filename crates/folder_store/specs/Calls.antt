@@ -64,10 +64,13 @@ abbrev pub WritesMade : MadeFile → List ℕ → Result ℕ Denial → MadeFile
 WritesMade old bytes (Ok n) new = new ≡ record { content = old.content ++ take n bytes; is_flushed = false }
 WritesMade old bytes (Err d) new = WasInterrupted d → new ≡ old
 
--- rename(2) of such a file: its new path leads to it, in the place of another. A refused call did that, or nothing
-abbrev pub Renames : {T : Type 0} → Tree → MadeFile → List ℕ → Result T Denial → Tree → Type 0
-Renames old file to (Ok done) new = new ≡ record { directory = put_in old.directory file to; turn = old.turn + 1 }
-Renames old file to (Err d) new = (new.directory ≡ old.directory) ⊎ (new.directory ≡ put_in old.directory file to)
+-- rename(2) of such a file, whose premise holds: its new path leads to it, in the place of another. A refused call did
+-- that, or nothing
+abbrev pub Renames : {T : Type 0} → (Sound : Type 0) → Tree → MadeFile → List ℕ → Result T Denial → Tree → Type 0
+Renames Sound old file to (Ok done) new =
+    Sound × (new ≡ record { directory = put_in old.directory file to; turn = old.turn + 1 })
+Renames Sound old file to (Err d) new =
+    (new.directory ≡ old.directory) ⊎ (Sound × (new.directory ≡ put_in old.directory file to))
 
 -- ---- files that have names
 

@@ -82,10 +82,11 @@ abbrev pub Makes : {N : Type 0} → (N → MadeFile) → Bool → Result N Store
 Makes made can_make (Ok file) = (can_make ≡ true) × (made file ≡ empty_made)
 Makes made can_make (Err fault) = fault ≡ Missing → can_make ≡ false
 
--- `put`: the file that was made is put under the name; a refused call did that, or nothing
-abbrev pub PutsFile : {T : Type 0} → Directory → MadeFile → List ℕ → Result T StoreFault → Directory → Type 0
-PutsFile old file name (Ok done) new = new ≡ put_in old file name
-PutsFile old file name (Err fault) new = (new ≡ old) ⊎ (new ≡ put_in old file name)
+-- `put`: the file that was made, whose premise holds, is put under the name; a refused call did that, or nothing
+abbrev pub PutsFile : {T : Type 0} → (Sound : Type 0) → Directory → MadeFile → List ℕ → Result T StoreFault → Directory
+    → Type 0
+PutsFile Sound old file name (Ok done) new = Sound × (new ≡ put_in old file name)
+PutsFile Sound old file name (Err fault) new = (new ≡ old) ⊎ (Sound × (new ≡ put_in old file name))
 
 -- a call that only reads a file answered a fault: there is no such file, or the call was refused
 abbrev pub LacksFile : Directory → List ℕ → StoreFault → Directory → Type 0

@@ -112,12 +112,12 @@ pub trait FileCalls {
 
     /// rename(2) of a file that was made.
     fn rename(&mut self, file: &Self::Made, to: &str) -> Result<(), Denial>
-        ensures { sound self.new → sound self.old × Self.Made.sound file.now
-            × Renames (tree self.old) (Self.Made.made file.now) to.now result (tree self.new) };
+        ensures { sound self.new → sound self.old
+            × Renames (Self.Made.sound file.now) (tree self.old) (Self.Made.made file.now) to.now result
+            (tree self.new) };
 
-    /// unlink(2) of a file that was made.
-    fn unlink(&mut self, file: &Self::Made) -> Result<(), Denial>
-        ensures { sound self.new → sound self.old × Self.Made.sound file.now × (tree self.new ≡ tree self.old) };
+    /// unlink(2) of a file that was made. No other call is given its path, so nothing is promised.
+    fn unlink(&self, file: &Self::Made) -> Result<(), Denial>;
 
     /// stat(2)
     fn stat(&mut self, path: &str) -> Result<FileStat, Denial>

@@ -53,19 +53,19 @@ pub trait FileFolder: FolderState {
     /// Makes a file, which its owner alone can read. The name tells it from others that were made.
     /// Missing if the place for such files isn't there.
     fn make(&mut self, name: &str) -> Result<Self::File, StoreFault>
-        ensures makes { Self.sound self.new → IfOk result Self.File.sound → Self.sound self.old
-            × (Self.directory self.new ≡ Self.directory self.old)
-            × Makes Self.File.made (Self.directory self.old).can_make result }
+        ensures makes { Self.sound self.new → Self.sound self.old × (Self.directory self.new ≡ Self.directory self.old)
+            × (IfOk result Self.File.sound → Makes Self.File.made (Self.directory self.old).can_make result) }
         ensures fault { IfErr result IsDeviceFault };
 
     /// Puts a file that was made under a name, in the place of another, if there is one.
     fn put(&mut self, file: Self::File, name: &str) -> Result<(), StoreFault>
-        ensures { Self.sound self.new → Self.sound self.old × Self.File.sound file
-            × PutsFile (Self.directory self.old) (Self.File.made file) name.now result (Self.directory self.new) };
+        ensures { Self.sound self.new → Self.sound self.old
+            × PutsFile (Self.File.sound file) (Self.directory self.old) (Self.File.made file) name.now result
+            (Self.directory self.new) };
 
     /// Gives up a file that was made.
     fn discard(&mut self, file: Self::File)
-        ensures { Self.sound self.new → Self.sound self.old × Self.File.sound file
+        ensures { Self.sound self.new → Self.sound self.old
             × (Self.directory self.new ≡ Self.directory self.old) };
 
     /// The bytes of a file. Missing if there is none.

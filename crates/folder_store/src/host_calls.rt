@@ -106,7 +106,7 @@ impl<'a, R: Files + AllocGlobal> FileCalls for HostCalls<'a, R> {
         self.system.rename(file.path.as_str(), to)
     }
 
-    fn unlink(&mut self, file: &OpenAt<R::File>) -> Result<(), Denial> {
+    fn unlink(&self, file: &OpenAt<R::File>) -> Result<(), Denial> {
         self.system.unlink(file.path.as_str())
     }
 

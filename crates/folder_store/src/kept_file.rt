@@ -42,8 +42,8 @@ fn rename_made<C: FileCalls>(
     name: &str,
 ) -> Result<(), Denial>
     ensures { WhereFilesSound C.sound C.tree calls.old calls.new
-        (λ old new. OnOk result (C.Made.sound file.now)
-        × Renames old (C.Made.made file.now) (path_named paths.now name.now) result new) }
+        (λ old new. Renames (C.Made.sound file.now) old (C.Made.made file.now) (path_named paths.now name.now)
+        result new) }
 {
     let path = paths.path_of(name)?;
     calls.rename(file, path.as_str())
@@ -57,8 +57,8 @@ pub fn put_made<C: FileCalls>(
     name: &str,
 ) -> Result<(), Denial>
     ensures { WhereFilesSound C.sound C.tree calls.old calls.new
-        (λ old new. C.Made.sound file.now
-        × Renames old (C.Made.made file.now) (path_named paths.now name.now) result new) }
+        (λ old new. Renames (C.Made.sound file.now) old (C.Made.made file.now) (path_named paths.now name.now)
+        result new) }
 {
     match rename_made(calls, paths, file, name) {
         Ok(()) => Ok(()),

@@ -355,8 +355,8 @@ impl FileFolder for MemoryFolder {
 
     // The calls that take no memory answer.
     fn make(&mut self, _name: &str) -> Result<MemoryNewFile, StoreFault>
-        ensures makes { Unit {0} → IfOk result (λ _. Unit {0}) → Unit {0} × (self.new ≡ self.old)
-            × Makes made_of self.old.can_make result }
+        ensures makes { Unit {0} → Unit {0} × (self.new ≡ self.old)
+            × (IfOk result (λ _. Unit {0}) → Makes made_of self.old.can_make result) }
         ensures fault { IfErr result IsDeviceFault }
         ensures answers { IsOk result }
     {
