@@ -61,7 +61,6 @@ EXCUSES = {
     "FlushesNames": "the file system flushes no folders, which ends the premise",
     "FlushesNamesIn": "the file system flushes no folders, which ends the premise",
     "Creates": "the place where files are made isn't there",
-    "CreatesIn": "the place where files are made isn't there",
     "Makes": "the place where files are made isn't there",
     "WereTaken": "mail readers took files away",
     "Moved": "others moved, marked or took away files, or put what can't be opened beside them",

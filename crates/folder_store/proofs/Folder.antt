@@ -12,7 +12,7 @@ use Rattle.mail_store.specs.{
 use Rattle.folder_store.specs.{
   FileFolder.{Directory, MadeFile, Older, AltersInPart, FlushesNames, Makes, MeasuresFile, PutsFile, ReadsFile, ReadsPiece},
   FileFolder.{TellsFileSize, content_at, find, names_flushed, put_in},
-  Calls.{Creates, FlushesFolder, IsAbsent, Renames, Tree, answered, device_fault, names_synced},
+  Calls.{FlushesFolder, IsAbsent, Renames, Tree, answered, device_fault, names_synced},
   Under.{after, directory_under, front_of, older_entry_under, older_under, outside, outside_entry, under},
 }
 use Rattle.folder_store.proofs.{Refusing.{missing_absent}, Under.{alters_under, find_under, put_under}}

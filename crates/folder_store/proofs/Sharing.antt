@@ -10,12 +10,12 @@ use Rattle.std.specs.IoError.{error_kind}
 use Rattle.system_calls.specs.declared.refusal.Denial.{Denial}
 use Rattle.mail_store.specs.declared.fault.StoreFault.{StoreFault}
 use Rattle.folder_store.specs.{
-  Calls.{answered},
+  Calls.{Creates, answered},
   FileFolder.{MadeFile, Makes},
   HostAnswers.{refuses_links},
   MailCalls.{MakesDraft, Then, TellsFiles, file_names, odd_names},
   MailFolders.{Directories, Moved, odd_names_in, unopened_in},
-  SharedCalls.{AddsNames, CreatesIn, Did, IsSame, Links, Shared},
+  SharedCalls.{AddsNames, Did, IsSame, Links, Shared},
 }
 use Rattle.folder_store.proofs.{MailMoves.{on, rest}, Refusing.{missing_absent}}
 
@@ -42,12 +42,12 @@ unseen a b same = subst (λ (s : Shared). Moved a.directories s.directories) (sy
 
 -- a file was made, or wasn't
 makes_in : {N : Type 0} (made : N → MadeFile) (Sound : N → Type 0) (has_tmp : Bool) (r : Result N Denial) (answer : Result N StoreFault)
-    → answer ≡ answered r → (IfOk r Sound → CreatesIn made has_tmp r) → IfOk answer Sound → Makes made has_tmp answer
+    → answer ≡ answered r → (IfOk r Sound → Creates made has_tmp r) → IfOk answer Sound → Makes made has_tmp answer
 makes_in made Sound has_tmp (Ok file) answer is creates = rw is (λ s. creates s)
 makes_in made Sound has_tmp (Err d) answer is creates = rw is (λ s missing. creates s (missing_absent (error_kind d.error) missing))
 
 pub makes_draft : {N : Type 0} (made : N → MadeFile) (Sound : N → Type 0) (a b : Shared) (r : Result N Denial)
-    (answer : Result N StoreFault) → answer ≡ answered r → b ≡ a → (IfOk r Sound → CreatesIn made a.directories.there.tmp r)
+    (answer : Result N StoreFault) → answer ≡ answered r → b ≡ a → (IfOk r Sound → Creates made a.directories.there.tmp r)
     → IfOk answer Sound → Then (MakesDraft made answer) a.directories b.directories
 makes_draft made Sound a b r answer is same creates sound = (
   a.directories,

@@ -55,9 +55,9 @@ with_file_at t path b = record t { directory = with_blob t.directory path b }
 
 -- open(2) with O_CREAT and O_EXCL: a file without bytes, at a path that no other call is given; ENOENT only if none can
 -- be made
-abbrev pub Creates : {N : Type 0} → (N → MadeFile) → Tree → Result N Denial → Type 0
-Creates made t (Ok file) = (t.directory.can_make ≡ true) × (made file ≡ empty_made)
-Creates made t (Err d) = IsAbsent d → t.directory.can_make ≡ false
+abbrev pub Creates : {N : Type 0} → (N → MadeFile) → (can_make : Bool) → Result N Denial → Type 0
+Creates made can_make (Ok file) = (can_make ≡ true) × (made file ≡ empty_made)
+Creates made can_make (Err d) = IsAbsent d → can_make ≡ false
 
 -- write(2) to such a file: a front of the bytes was appended; EINTR: none was
 abbrev pub WritesMade : MadeFile → List ℕ → Result ℕ Denial → MadeFile → Type 0

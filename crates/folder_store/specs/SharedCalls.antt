@@ -71,11 +71,6 @@ IsLead (Odd why) unopened odd = (unopened ≡ true) × (odd ≡ true)
 abbrev pub IsLeadOf : Directories → Folder → List ℕ → Lead → Type 0
 IsLeadOf d folder name lead = IsLead lead (has_id (unopened_in folder d) name) (has_id (odd_names_in folder d) name)
 
--- open(2) with O_CREAT and O_EXCL in `tmp`: a file without bytes; ENOENT: `tmp` isn't there
-abbrev pub CreatesIn : {N : Type 0} → (N → MadeFile) → Bool → Result N Denial → Type 0
-CreatesIn made has_tmp (Ok file) = (has_tmp ≡ true) × (made file ≡ empty_made)
-CreatesIn made has_tmp (Err d) = IsAbsent d → has_tmp ≡ false
-
 -- link(2) of a file that was made to a name in `new`, where nothing has it. EPERM, EOPNOTSUPP, EXDEV, EMLINK: nothing
 -- was done; another refused call did it, or nothing
 abbrev pub Links : {T : Type 0} → MadeFile → List ℕ → Result T Denial → Directories → Directories → Type 0

@@ -108,7 +108,7 @@ pub trait FileCalls {
     /// open(2) with O_CREAT, O_EXCL and O_WRONLY, for the owner alone.
     fn create(&mut self, path: &str) -> Result<Self::Made, Denial>
         ensures { sound self.new → sound self.old × (tree self.new ≡ tree self.old)
-            × (IfOk result Self.Made.sound → Creates Self.Made.made (tree self.old) result) };
+            × (IfOk result Self.Made.sound → Creates Self.Made.made (tree self.old).directory.can_make result) };
 
     /// rename(2) of a file that was made.
     fn rename(&mut self, file: &Self::Made, to: &str) -> Result<(), Denial>

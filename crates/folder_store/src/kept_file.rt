@@ -28,7 +28,7 @@ pub fn make_marked<C: FileCalls>(
     name: &str,
 ) -> Result<C::Made, Denial>
     ensures { WhereFilesStay C.sound C.tree calls.old calls.new
-        (λ tree. IfOk result C.Made.sound → Creates C.Made.made tree result) }
+        (λ tree. IfOk result C.Made.sound → Creates C.Made.made tree.directory.can_make result) }
 {
     let path = paths.made_path(name)?;
     calls.create(path.as_str())

@@ -30,9 +30,8 @@ pub enum Lead {
 pub trait SharedCalls {
     ghost use Rattle.std.specs.Prelude.{◌≡◌, ℕ, List, false, true, IfErr, IfOk, Ok};
     ghost use Rattle.folder_store.specs.MailCalls.{FlushesFiles, PutsDraft};
-    ghost use Rattle.folder_store.specs.Calls.{IsAbsent, answered};
+    ghost use Rattle.folder_store.specs.Calls.{Creates, IsAbsent, answered};
     ghost use Rattle.folder_store.specs.SharedCalls.{
-      CreatesIn,
       Did,
       IsLeadOf,
       IsSame,
@@ -86,7 +85,7 @@ pub trait SharedCalls {
     fn create(&mut self, name: &str) -> Result<Self::Made, Denial>
         ensures { sound self.new → sound self.old × (shared self.new ≡ shared self.old)
             × (IfOk result Self.Made.sound
-            → CreatesIn Self.Made.made (shared self.old).directories.there.tmp result) };
+            → Creates Self.Made.made (shared self.old).directories.there.tmp result) };
 
     /// link(2) of a file that was made to a name in `new`.
     fn link(&mut self, file: &Self::Made, name: &str) -> Result<(), Denial>
