@@ -146,12 +146,18 @@ names_synced t folder = record t {
   directory = record t.directory { older = outside (front_of folder) t.directory.older };
 }
 
--- fsync(2) of a folder: the names in it are durable; a refused call did that, or nothing. That the file system flushes
--- no folders (EINVAL, ENOTSUP) ends the premise
-abbrev pub SyncsNames : {T : Type 0} → Tree → OpenPath → Result T Denial → Tree → Type 0
-SyncsNames old folder (Ok done) new = new ≡ names_synced old folder.path
-SyncsNames old folder (Err d) new = (error_kind d.error ≢ InvalidInput) × (error_kind d.error ≢ Unsupported)
-    × ((new ≡ old) ⊎ (new ≡ names_synced old folder.path))
+-- EINVAL, EOPNOTSUPP: the system flushes no folders
+abbrev pub flushes_none : ErrorKind → Bool
+flushes_none InvalidInput = true
+flushes_none Unsupported = true
+flushes_none _ = false
+
+-- fsync(2) of the folder at a path: the names in it are durable; a refused call did that, or nothing. That the file
+-- system flushes no folders ends the premise
+abbrev pub SyncsNames : {T : Type 0} → Tree → List ℕ → Result T Denial → Tree → Type 0
+SyncsNames old folder (Ok done) new = new ≡ names_synced old folder
+SyncsNames old folder (Err d) new =
+    (flushes_none (error_kind d.error) ≡ false) × ((new ≡ old) ⊎ (new ≡ names_synced old folder))
 
 -- ---- what a device answers
 

@@ -1,7 +1,14 @@
 -- What a folder has open.
-use Rattle.std.specs.Prelude.{◌≡◌, ◌⊎◌, ℕ, List, None, Some, Option, String, option_map, string_bytes}
-use Rattle.std.specs.Option.{option_or}
-use Rattle.folder_store.specs.declared.handles.{Changed.{Changed}, Handles.{Handles}}
+use Rattle.std.specs.{
+  Prelude.{◌≡◌, ◌⊎◌, ℕ, List, None, Some, true, false, Option, Result, Ok, Err, String, option_map, string_bytes},
+  IoError.error_kind,
+  Option.option_or,
+}
+use Rattle.system_calls.specs.declared.refusal.Denial.{Denial}
+use Rattle.folder_store.specs.{
+  Calls.flushes_none,
+  declared.handles.{Changed.{Changed}, Handles.{Handles}},
+}
 
 -- a handle is kept, or closed; the folder stays
 abbrev pub KeepsOrCloses : {F : Type 0} → Handles F → Handles F → Changed F → Type 0
@@ -16,3 +23,11 @@ abbrev pub FlushesTargets : {A : Type 0} → (List ℕ → Option (List ℕ) →
     → (old new : Option (String A)) → Type 0
 FlushesTargets {A = A} flushed path old new = (unflushed : Option (String A))
     × flushed path (option_map string_bytes unflushed) × (new ≡ option_or old unflushed)
+
+-- the path of a folder is known as one whose names weren't flushed, unless another one is, if the answer to fsync(2)
+-- says that the system flushes no folders
+abbrev pub NotesFolder : {F T : Type 0} → List ℕ → (old : Handles F) → Result T Denial → (new : Handles F) → Type 0
+NotesFolder folder old (Ok done) new = new.unflushed ≡ old.unflushed
+NotesFolder folder old (Err d) new =
+    (flushes_none (error_kind d.error) ≡ true → unflushed_path new ≡ option_or (unflushed_path old) (Some folder))
+    × (flushes_none (error_kind d.error) ≡ false → new.unflushed ≡ old.unflushed)

@@ -13,7 +13,6 @@ use Rattle.std.specs.{
           CrossesDevices,
           FilesystemLoop,
           InvalidFilename,
-          InvalidInput,
           NotADirectory,
           NotFound,
           PermissionDenied,
@@ -27,7 +26,7 @@ use Rattle.std.specs.{
 }
 use Rattle.system_calls.specs.declared.refusal.Denial.{Denial}
 use Rattle.folder_store.specs.{
-  Calls.IsAbsent,
+  Calls.{IsAbsent, flushes_none},
   declared.calls.{FileStat.FileStat, FileKind.{FileKind, TheVariants.{File, Folder, Other}}},
 }
 
@@ -68,12 +67,6 @@ abbrev pub TellsThere : {T : Type 0} → Result T Denial → Result Bool Denial 
 TellsThere (Ok found) there = there ≡ Ok true
 TellsThere (Err d) (Ok is) = (is ≡ false) × IsAbsent d
 TellsThere (Err d) (Err e) = (e ≡ d) × (IsAbsent d → ⊥)
-
--- EINVAL, EOPNOTSUPP: the system flushes no folders
-abbrev pub flushes_none : ErrorKind → Bool
-flushes_none InvalidInput = true
-flushes_none Unsupported = true
-flushes_none _ = false
 
 -- what is told of a file that was opened: the system's answer, but ESTALE in place of ENOENT
 abbrev pub TellsOpened : {T : Type 0} → Result T Error → Result T Denial → Type 0

@@ -17,9 +17,9 @@ use Rattle.folder_store.specs.{
   declared.{calls.FileStat.FileStat, exact_listing.ChangeTime.ChangeTime},
   declared.mail_folders.{FoundNames.FoundNames, Sought.Sought},
   declared.shared_calls.{ListedNames.ListedNames, Lead.{Lead, TheVariants.{File, Directory, Odd}}},
-  Calls.IsAbsent,
-  FileFolder.{MadeFile, empty_made},
-  HostAnswers.{IsFolder, flushes_none, refuses_links},
+  Calls.{IsAbsent, flushes_none},
+  FileFolder.MadeFile,
+  HostAnswers.{IsFolder, refuses_links},
   MailCalls.{ListsIn, PutsIntoNew, Then, file_names, names_flushed_in, odd_names},
   MailFolders.{Directories, odd_names_in, rests_in, unknown_directories, unopened_in},
 }

@@ -179,5 +179,5 @@ pub trait FileCalls {
     /// fsync(2) of a folder.
     fn fsync_folder(&mut self, folder: &Self::File) -> Result<(), Denial>
         ensures { sound self.new → sound self.old
-            × SyncsNames (tree self.old) (Self.File.opened folder.now) result (tree self.new) };
+            × SyncsNames (tree self.old) (Self.File.opened folder.now).path result (tree self.new) };
 }

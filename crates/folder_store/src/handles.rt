@@ -89,7 +89,7 @@ impl<F: Drop> Handles<F> {
 
     /// Keeps the folder open, after its names were flushed.
     pub fn keep_names(&mut self, names: Names<F>)
-        ensures { (self.new.changed ≡ self.old.changed) × (self.new.names ≡ Some names) }
+        ensures { self.new ≡ record self.old { names = Some names } }
     {
         self.names = Some(names);
     }

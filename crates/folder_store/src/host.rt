@@ -7,12 +7,13 @@ ghost use Rattle.std.specs.{
 };
 ghost use Rattle.system_calls.specs.Line.{IsRefusalText};
 ghost use Rattle.folder_store.specs.{
-  Calls.IsAbsent,
+  Calls.{IsAbsent, SyncsNames},
   FileFolder.unknown_directory,
-  Handles.unflushed_path,
+  Handles.{NotesFolder, unflushed_path},
   HostAnswers.{TellsThere, tells_odd},
   HostPaths.{AreIn, AreInMaildir, folder_of},
   Kept.KeptHolds,
+  Sound.WhereFilesSound,
   Under.{directory_under, front_of},
 };
 
@@ -23,14 +24,13 @@ use crate::handles::Handles;
 use crate::host_calls::HostCalls;
 use crate::host_paths::HostPaths;
 use crate::kept_file::{
-    append_kept, cut_kept, flush_kept, flush_links, flush_names, make_marked, names_of, put_made,
-    size_of,
+    append_kept, cut_kept, flush_kept, flush_links, flush_names, make_marked, put_made, size_of,
+    sync_names,
 };
 use crate::new_file::{CallsNewFile, answer_of};
 use crate::opened_file::{IRREGULAR, LEADS_NOWHERE, open_found, read_all, read_edges, read_piece};
 use crate::process_mark::ProcessMark;
 use crate::sweep::{Scratch, sweep};
-use crate::system::flushes_none;
 use crate::wanted::Wanted;
 use mail_store::{Edges, StoreFault};
 use std::alloc::{AllocError, Global};
@@ -56,6 +56,17 @@ pub struct CallsFolder<'a, C: FileCalls> {
 
 /// A folder of the machine's file system. The listing is exact although others rename files meanwhile.
 pub type HostFolder<'a, R> = CallsFolder<'a, HostCalls<'a, R>>;
+
+impl<'a, C: FileCalls> CallsFolder<'a, C> {
+    // fsync(2) of the folder.
+    pub(crate) fn sync_names(&mut self) -> Result<(), Denial>
+        ensures syncs { WhereFilesSound C.sound C.tree self.old.calls self.new.calls
+            (λ old new. SyncsNames old (folder_of self.old.paths) result new) }
+        ensures notes { NotesFolder (folder_of self.old.paths) self.old.handles result self.new.handles }
+    {
+        sync_names(&mut self.calls, &self.paths, &mut self.handles)
+    }
+}
 
 impl<'a, R: Files + AllocGlobal> CallsFolder<'a, HostCalls<'a, R>> {
     /// A folder of the Maildir at a path, absolute or taken from the working folder. Files are made in
@@ -250,28 +261,6 @@ impl<'a, R: Files + AllocGlobal> CallsFolder<'a, HostCalls<'a, R>> {
             Err(fault) if fault.kind() != ErrorKind::NotFound => Err(fault),
             _ => Ok(()),
         }
-    }
-
-    // fsync(2) of the folder, which stays open unless that is refused. Only that call's own answer says that the system
-    // flushes no folders, of which a note is taken.
-    pub(crate) fn fsync_names(&mut self) -> Result<(), Denial> {
-        let names = match names_of(&mut self.calls, &self.paths, &mut self.handles) {
-            Ok(names) => names,
-            Err(fault) if flushes_none(&fault) => {
-                return Err(self.folder_refusal("can't be opened"));
-            }
-            Err(fault) => return Err(fault),
-        };
-        let answer = self.calls.fsync_folder(&names.folder);
-        if let Err(fault) = &answer {
-            if flushes_none(fault) {
-                let path = self.paths.folder_path()?;
-                self.handles.note_unflushed(Some(path));
-            }
-            return answer;
-        }
-        self.handles.keep_names(names);
-        Ok(())
     }
 }
 

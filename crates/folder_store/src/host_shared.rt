@@ -190,7 +190,7 @@ impl<'a, R: Files + Clock + AllocGlobal + Clone + Drop> SharedCalls
     }
 
     fn fsync_folder(&mut self, folder: Folder) -> Result<(), Denial> {
-        self.folder_mut(folder).fsync_names()
+        self.folder_mut(folder).sync_names()
     }
 
     fn now(&self) -> Option<Duration> {

@@ -2,9 +2,9 @@
 
 ghost use Rattle.std.specs.Prelude.{◌≡◌, ◌-◌, ◌≤◌, None, IfOk, IfSome, OnOk, length};
 ghost use Rattle.folder_store.specs.{
-  Calls.{AppendsOpened, AppendsSome, Creates, Truncates, FlushesFolder, Renames, Syncs, answered},
+  Calls.{AppendsOpened, AppendsSome, Creates, Truncates, FlushesFolder, Renames, Syncs, SyncsNames, answered},
   FileFolder.{AppendsTo, CutsTo, FlushesFile, TellsFileSize},
-  Handles.FlushesTargets,
+  Handles.{FlushesTargets, NotesFolder},
   HostPaths.{folder_of, path_named},
   Kept.{KeptHolds, OpensKept},
   Sound.{WhereFilesSound, WhereFilesStay},
@@ -16,7 +16,7 @@ use crate::handles::{Changed, Handles, Names};
 use crate::host_paths::HostPaths;
 use crate::new_file::no_octet;
 use crate::opened_file::{measure, open_regular};
-use crate::system::gone;
+use crate::system::{are_flushed, flushes_none, gone};
 use crate::watch::{CHANGED, Watch};
 use std::io::{self, ErrorKind};
 use system_calls::Denial;
@@ -394,23 +394,9 @@ pub fn flush_kept<C: FileCalls>(
     }
 }
 
-/// Flushes the names of an open folder. False if the system flushes no folders, which is no fault.
-fn flush_folder<C: FileCalls>(calls: &mut C, folder: &C::File) -> Result<bool, Denial>
-    ensures { WhereFilesSound C.sound C.tree calls.old calls.new
-        (λ old new. FlushesFolder old (C.File.opened folder.now).path result new) }
-{
-    match calls.fsync_folder(folder) {
-        Ok(()) => Ok(true),
-        Err(fault) => match fault.kind() {
-            ErrorKind::InvalidInput | ErrorKind::Unsupported => Ok(false),
-            _ => Err(fault),
-        },
-    }
-}
-
 /// The folder itself: it is opened once, and again if its path leads to another one by now, since files are put there
 /// by their paths. It is taken out.
-pub fn names_of<C: FileCalls>(
+fn names_of<C: FileCalls>(
     calls: &mut C,
     paths: &HostPaths<'_>,
     handles: &mut Handles<C::File>,
@@ -418,7 +404,7 @@ pub fn names_of<C: FileCalls>(
     requires { KeptHolds C.FileCalls C.File.opened calls.old (folder_of paths.now) handles.old }
     ensures opens { WhereFilesStay C.sound C.tree calls.old calls.new
         (λ _. IfOk result (λ names. (C.File.opened names.folder).path ≡ folder_of paths.now)) }
-    ensures others { (handles.new.changed ≡ handles.old.changed) × (handles.new.names ≡ None) }
+    ensures others { handles.new ≡ record handles.old { names = None } }
 {
     let kept = handles.names.take();
     let path = paths.folder_path()?;
@@ -437,7 +423,39 @@ pub fn names_of<C: FileCalls>(
     })
 }
 
-/// Flushes the names of a folder, which stays open unless that is refused. False if its file system flushes no folders.
+/// fsync(2) of the folder, which stays open unless that is refused. Only that call's own answer says that the system
+/// flushes no folders, of which a note is taken.
+pub fn sync_names<C: FileCalls>(
+    calls: &mut C,
+    paths: &HostPaths<'_>,
+    handles: &mut Handles<C::File>,
+) -> Result<(), Denial>
+    requires { KeptHolds C.FileCalls C.File.opened calls.old (folder_of paths.now) handles.old }
+    ensures syncs { WhereFilesSound C.sound C.tree calls.old calls.new
+        (λ old new. SyncsNames old (folder_of paths.now) result new) }
+    ensures notes { NotesFolder (folder_of paths.now) handles.old result handles.new }
+    ensures kept { KeptHolds C.FileCalls C.File.opened calls.new (folder_of paths.now) handles.new }
+{
+    let names = match names_of(calls, paths, handles) {
+        Ok(names) => names,
+        Err(fault) if flushes_none(&fault) => return Err(paths.folder_refusal("can't be opened")),
+        Err(fault) => return Err(fault),
+    };
+    match calls.fsync_folder(&names.folder) {
+        Ok(()) => {
+            handles.keep_names(names);
+            Ok(())
+        }
+        Err(fault) => {
+            if flushes_none(&fault) {
+                handles.note_unflushed(Some(paths.folder_path()?));
+            }
+            Err(fault)
+        }
+    }
+}
+
+/// Flushes the names of a folder. False if its file system flushes no folders.
 pub fn flush_names<C: FileCalls>(
     calls: &mut C,
     paths: &HostPaths<'_>,
@@ -448,11 +466,5 @@ pub fn flush_names<C: FileCalls>(
         (λ old new. FlushesFolder old (folder_of paths.now) result new) }
     ensures kept { KeptHolds C.FileCalls C.File.opened calls.new (folder_of paths.now) handles.new }
 {
-    let names = names_of(calls, paths, handles)?;
-    let is_flushed = flush_folder(calls, &names.folder)?;
-    if !is_flushed {
-        handles.note_unflushed(Some(paths.folder_path()?));
-    }
-    handles.keep_names(names);
-    Ok(is_flushed)
+    are_flushed(sync_names(calls, paths, handles))
 }

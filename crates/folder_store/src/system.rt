@@ -2,7 +2,11 @@
 
 ghost use Rattle.std.specs.{IoError.error_kind, Path.path_join, Prelude.{◌≡◌, IfErr, IfOk, string_bytes}};
 ghost use Rattle.system_calls.specs.Denials.{IsAbout};
-ghost use Rattle.folder_store.specs.{HostAnswers.{TellsFlush, TellsOpened, flushes_none}, HostPaths.ArePartsOf};
+ghost use Rattle.folder_store.specs.{
+  Calls.flushes_none,
+  HostAnswers.{TellsFlush, TellsOpened},
+  HostPaths.ArePartsOf,
+};
 
 use std::alloc::{AllocError, Global};
 use std::fs::OpenFile;
