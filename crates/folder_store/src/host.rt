@@ -7,17 +7,17 @@ ghost use Rattle.std.specs.{
 };
 ghost use Rattle.system_calls.specs.Line.{IsRefusalText};
 ghost use Rattle.folder_store.specs.{
-  Calls.{IsAbsent, SyncsNames},
+  Calls.{Creates, IsAbsent, Stats, SyncsNames},
   FileFolder.unknown_directory,
   Handles.{NotesFolder, unflushed_path},
   HostAnswers.{TellsThere, tells_odd},
-  HostPaths.{AreIn, AreInMaildir, folder_of},
+  HostPaths.{AreIn, AreInMaildir, folder_of, path_named},
   Kept.KeptHolds,
-  Sound.WhereFilesSound,
+  Sound.{WhereFilesSound, WhereFilesStay},
   Under.{directory_under, front_of},
 };
 
-use crate::calls::{Access, FileCalls, FileKind, OpenHandle};
+use crate::calls::{Access, FileCalls, FileKind, FileStat, OpenHandle};
 use crate::exact_listing::{FolderNames, list_names};
 use crate::file_folder::{FileFolder, FolderState};
 use crate::handles::Handles;
@@ -58,6 +58,30 @@ pub struct CallsFolder<'a, C: FileCalls> {
 pub type HostFolder<'a, R> = CallsFolder<'a, HostCalls<'a, R>>;
 
 impl<'a, C: FileCalls> CallsFolder<'a, C> {
+    // The path of a name.
+    pub(crate) fn path_of(&self, name: &str) -> Result<String, Denial>
+        ensures { IfOk result (λ path. string_bytes path ≡ path_named self.now.paths name.now) }
+    {
+        self.paths.path_of(name)
+    }
+
+    // Makes a file to be put under a name.
+    pub(crate) fn create(&mut self, name: &str) -> Result<C::Made, Denial>
+        ensures { WhereFilesStay C.sound C.tree self.old.calls self.new.calls
+            (λ tree. IfOk result C.Made.sound → Creates C.Made.made tree.directory.can_make result) }
+    {
+        make_marked(&mut self.calls, &self.paths, name)
+    }
+
+    // stat(2) of the folder.
+    pub(crate) fn stat(&mut self) -> Result<FileStat, Denial>
+        ensures { WhereFilesStay C.sound C.tree self.old.calls self.new.calls
+            (λ tree. Stats tree (folder_of self.old.paths) result) }
+    {
+        let path = self.paths.folder_path()?;
+        self.calls.stat(path.as_str())
+    }
+
     // fsync(2) of the folder.
     pub(crate) fn sync_names(&mut self) -> Result<(), Denial>
         ensures syncs { WhereFilesSound C.sound C.tree self.old.calls self.new.calls
@@ -138,27 +162,9 @@ impl<'a, R: Files + AllocGlobal> CallsFolder<'a, HostCalls<'a, R>> {
         self.paths.alloc
     }
 
-    // The folder's metadata.
-    pub(crate) fn look_at_folder(&self) -> Result<Metadata, Denial> {
-        self.calls.system.stat(self.paths.folder_path()?.as_str())
-    }
-
-    // Makes a file to be put under a name.
-    pub(crate) fn create(&mut self, name: &str) -> Result<OpenAt<R::File>, Denial> {
-        make_marked(&mut self.calls, &self.paths, name)
-    }
-
-    // The path of a name.
-    pub(crate) fn path_of(&self, name: &str) -> Result<String, Denial> {
-        self.paths.path_of(name)
-    }
-
     /// Whether there is a file of a name that has octets.
     pub fn has_octets(&self, name: &str) -> bool {
-        match self.look_up(name) {
-            Ok(found) => !found.is_dir() && found.len() > 0,
-            Err(_) => false,
-        }
+        matches!(self.look_up(name), Ok(found) if !found.is_dir() && found.len() > 0)
     }
 
     /// The path of a folder whose names weren't flushed because the system flushes no folders, if there is one: of this

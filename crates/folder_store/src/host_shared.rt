@@ -38,8 +38,7 @@ impl<'a, R: Files + Clock + AllocGlobal + Clone + Drop> CallsShared<'a, R, HostC
     fn sync_pass(&mut self, wanted: Wanted<'_>, stems: &[&str]) -> Result<Vec<Found>, Denial> {
         let in_new = self.new_folder.read_names(wanted)?;
         let in_cur = self.cur_folder.read_names(wanted)?;
-        let now = self.new_folder.look_at_folder()?;
-        if ChangeTime::of(&in_new.folder) != ChangeTime::of(&now) {
+        if ChangeTime::of(&in_new.folder) != self.new_folder.stat()?.change {
             return Ok(Vec::new(self.system.alloc()));
         }
         self.sync_listed(in_new.names, in_cur.names, stems)
@@ -141,7 +140,7 @@ impl<'a, R: Files + Clock + AllocGlobal + Clone + Drop> SharedCalls
     ghost sound = { λ _. ⊥ };
 
     fn stat(&mut self, folder: Folder) -> Result<FileStat, Denial> {
-        Ok(FileStat::of(&self.folder(folder).look_at_folder()?))
+        self.folder_mut(folder).stat()
     }
 
     fn list(&mut self, folder: Folder, sought: Sought<'_>) -> Result<ListedNames, Denial> {
