@@ -1,13 +1,15 @@
 //! Removing from a folder what killed runs left behind.
 
 ghost use Rattle.std.specs.{
+  Fs.{IsFile, file_type},
   IoError.error_kind,
   List.All,
-  Prelude.{◌≡◌, ◌≢◌, ◌↔◌, Err, IfErr, IfOk, IsErrAnd, IsTrue, MatchOption, Ok, OnOk, map, string_bytes},
+  Prelude.{◌≡◌, ◌≢◌, ◌↔◌, ◌++◌, Err, IfErr, IfOk, IsErrAnd, IsTrue, MatchOption, Ok, OnOk, codes, map, string_bytes},
 };
 ghost use Rattle.folder_store.specs.{Marks.IsOurs, Sweep.{IsDealtWith, IsLeftBehind, IsSwept}};
 
 use crate::process_mark::is_marked;
+use std::fs::Metadata;
 use std::io::ErrorKind;
 use std::rt::Files;
 use std::time::{Clock, Duration, SystemTime};
@@ -23,6 +25,18 @@ const LEFT_BEHIND_SECONDS: u64 = 3_600;
 pub struct SweptFile {
     pub is_regular: bool,
     pub modified: Option<SystemTime>,
+}
+
+impl SweptFile {
+    /// What the system reports.
+    pub fn of(found: &Metadata) -> SweptFile
+        ensures { IsTrue result.is_regular ↔ IsFile (file_type found.now) }
+    {
+        SweptFile {
+            is_regular: found.is_file(),
+            modified: found.modified().ok(),
+        }
+    }
 }
 
 /// A folder from which files are removed whose names begin so. Others make, write and remove files there meanwhile:
@@ -157,7 +171,10 @@ fn entry_in<T, R: AllocGlobal>(
 }
 
 impl<'a, R: AllocGlobal> Scratch<'a, R> {
-    fn path_of(&self, name: &str) -> Result<String, Denial> {
+    // The path of a name.
+    fn path_of(&self, name: &str) -> Result<String, Denial>
+        ensures { IfOk result (λ path. string_bytes path ≡ self.now.path.now ++ (codes "/" ++ name.now)) }
+    {
         let path = self.path;
         Ok(format!(in self.system.alloc(); "{path}/{name}")?)
     }
@@ -198,11 +215,8 @@ impl<'a, R: Files + Clock + AllocGlobal + Clone + Drop> SweptFolder for Scratch<
     }
 
     fn look_at(&self, name: &str) -> Result<SweptFile, Denial> {
-        let found = self.system.lstat(self.path_of(name)?.as_str())?;
-        Ok(SweptFile {
-            is_regular: found.is_file(),
-            modified: found.modified().ok(),
-        })
+        let path = self.path_of(name)?;
+        Ok(SweptFile::of(&self.system.lstat(path.as_str())?))
     }
 
     fn remove(&self, name: &str) {
