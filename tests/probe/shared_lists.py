@@ -1,7 +1,7 @@
 """Random lists of single calls on the folders `new` and `cur` of a Maildir, with a reader's moves before them, and what case
 each call is.
 
-A line is a call's name, the number of a file that was made or `-`, and a name, a folder, stems or octets. A reader, which is
+A line is a call's name, the number of a file that was made or opened or `-`, and a name, a folder, stems or octets. A reader, which is
 another process, moves, marks or takes away at most one file before a call, and never so that a file comes to a name that
 something has; calls on `tmp` it doesn't see.
 """
@@ -18,6 +18,9 @@ from probe.watched import name_of
 NAMES = (*(name_of(number) for number in (1, 2, 3)), "other")
 # What can't be opened has this one in both folders.
 ODD = name_of(4)
+# What becomes of a name that a file is to get.
+FREE = {"nothing": "free", "moved away": "moved away", "file": "taken",
+        "what can't be opened": "taken by what can't be opened"}
 # What marks a file in `cur`.
 MARKS = re.compile(":2,[A-Z]*$")
 
@@ -27,13 +30,15 @@ CASES = {
     "made-write": ("octets", "nothing"),
     "made-fsync": ("octets", "nothing"),
     "link": ("free", "taken", "taken by what can't be opened", "moved away"),
+    "stat-name": ("file", "nothing", "what can't be opened", "moved away"),
+    "open": ("file", "nothing", "what can't be opened", "moved away"),
+    "fstat": ("file", "moved away"),
     "lstat": ("file", "nothing", "what can't be opened", "moved away"),
     "rename": ("free", "taken", "taken by what can't be opened", "moved away"),
     "unlink": ("made", "linked"),
     "stat": ("never listed", "rests", "changed"),
     "list": ("new", "cur", "something went"),
     "list-all": ("new", "cur", "something went"),
-    "look": ("file", "what can't be opened", "moved away"),
     "flush-files": ("one", "several"),
     "fsync-folder": ("new", "cur"),
     "other": ("to cur", "to new", "another mark", "away from new", "away from cur"),
@@ -62,11 +67,10 @@ class Builder(CallList):
         super().__init__(CASES, source, folder)
         # In folders with what can't be opened, names aren't listed whatever they lead to: the model leaves those out.
         self.obstacles = [ODD][:source.randrange(2)]
-        self.steps, self.made, self.ready, self.linked = [], [], [], []
+        self.steps, self.made, self.ready, self.linked, self.opened = [], [], [], [], []
         # The files by their places in memory, where one that was taken away stays until a folder is listed.
         self.files = []
         self.rests = {"new": None, "cur": None}
-        self.told = {"new": [], "cur": []}
         self.left = set()
 
     def text(self):
@@ -86,13 +90,20 @@ class Builder(CallList):
             if self.rests[folder]:
                 self.rests[folder] = False
 
-    def at(self, name, free):
-        """The case of a name in `new`."""
-        if name in self.obstacles:
-            return "what can't be opened" if free == "nothing" else "taken by what can't be opened"
-        if f"new/{name}" in self.paths():
-            return "file" if free == "nothing" else "taken"
-        return "moved away" if f"new/{name}" in self.left else free
+    def at(self, path):
+        """The case of a name in a folder."""
+        if Path(path).name in self.obstacles:
+            return "what can't be opened"
+        if path in self.paths():
+            return "file"
+        return "moved away" if path in self.left else "nothing"
+
+    def path(self):
+        """A name in one of the folders. In memory all files in `cur` have the same marks."""
+        marked = {file.base for file in self.there() if file.folder == "cur" and file.marks != "S"}
+        paths = [*(f"new/{name}" for name in (*NAMES, ODD)), f"cur/{ODD}",
+                 *(f"cur/{name}:2,S" for name in NAMES if name not in marked)]
+        return self.source.choice([*paths, *[path for path in paths if path in self.paths()] * 2])
 
     # ---- the reader
 
@@ -152,7 +163,7 @@ class Builder(CallList):
         """Gives a file that was made a name, if that is free; answers whether it has it."""
         self.let_reader_move()
         number, name = self.source.choice(self.ready), self.name()
-        case = self.at(name, "free")
+        case = FREE[self.at(f"new/{name}")]
         self.add(call, number, name, case)
         if case in ("free", "moved away"):
             self.ready.remove(number)
@@ -176,10 +187,28 @@ class Builder(CallList):
 
     # ---- folders
 
-    def lstat(self):
+    def look(self, call):
         self.let_reader_move()
-        name = self.name()
-        self.add("lstat", "-", name, self.at(name, "nothing"))
+        path = self.path()
+        self.add(call, "-", path, self.at(path))
+        return path
+
+    def stat_name(self):
+        self.look("stat-name")
+
+    def open(self):
+        """Opens a name, if stat(2) says that it is that of a file. The reader makes no move between the two."""
+        path = self.look("open")
+        is_file = self.at(path) == "file"
+        self.steps += ["rest"] * is_file
+        self.opened.append(path if is_file else None)
+
+    def lstat(self):
+        self.look("lstat")
+
+    def fstat(self):
+        number = self.source.choice([number for number, path in enumerate(self.opened) if path])
+        self.add("fstat", number, "-", "file" if self.opened[number] in self.paths() else "moved away")
 
     def stat(self):
         self.let_reader_move()
@@ -197,16 +226,6 @@ class Builder(CallList):
                  "something went" if len(self.there()) < len(self.files) else folder)
         self.files = self.there()
         self.rests[folder] = True
-        self.told[folder] = [*(file.path for file in self.files
-                               if file.folder == folder and (lists_all or file.base != "other")),
-                             *(f"{folder}/{obstacle}" for obstacle in self.obstacles)]
-
-    def look(self):
-        self.let_reader_move()
-        folder = self.source.choice([folder for folder in ("new", "cur") if self.told[folder]])
-        path = self.source.choice(self.told[folder])
-        there = "file" if path in self.paths() else "moved away"
-        self.add("look", "-", path, "what can't be opened" if Path(path).name in self.obstacles else there)
 
     def flush_files(self):
         self.let_reader_move()
@@ -228,13 +247,13 @@ class Builder(CallList):
 
     def choices(self):
         """The calls that can be made now, as often as they shall come."""
-        calls = [*[self.create] * 3, self.lstat, self.stat, self.list, self.fsync_folder]
+        calls = [*[self.create] * 3, self.stat_name, self.open, self.lstat, *[self.stat] * 2, self.list, self.fsync_folder]
         if self.ready:
             calls += [*[self.write] * 2, self.flush, *[self.link] * 4, *[self.rename] * 3]
         if self.ready or self.linked:
             calls.append(self.unlink)
-        if self.told["new"] or self.told["cur"]:
-            calls += [*[self.look] * 2, *[self.stat] * 2]
+        if any(self.opened):
+            calls.append(self.fstat)
         if self.there():
             calls.append(self.flush_files)
         return calls

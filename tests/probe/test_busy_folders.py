@@ -43,9 +43,14 @@ def move_files(folder, source, has_begun, is_over):
         time.sleep(source.random() * REST_SECONDS)
 
 
+def number_of(name):
+    """The number of a message."""
+    return int(bytes.fromhex(name.split(",")[0][65:])[3:])
+
+
 def may_go(name):
     """Whether a message may be taken away."""
-    return int(bytes.fromhex(name.split(",")[0][65:])[3:]) % 3 == 0
+    return number_of(name) % 3 == 0
 
 
 class BusyList:
@@ -75,14 +80,16 @@ class BusyList:
     def any_name(self):
         return self.source.choice([*self.texts, *(name_of(number) for number in STAYING[:5])])
 
-    def lstat(self):
-        name = self.any_name()
-        there = [f"file {len(self.texts[name])}"] if name in self.texts else []
-        self.add(f"lstat - {name}", "absent", *there)
-
     def look(self):
-        path = self.source.choice((f"new/{self.any_name()}", f"cur/{self.any_name()}:2,S", f"new/{ODD}", f"cur/{ODD}"))
-        self.add(f"look - {path}", "odd" if path.endswith(ODD) else "file")
+        call, folder = self.source.choice(("stat-name", "open", "lstat")), self.folder()
+        if self.source.randrange(3) == 0:
+            self.add(f"{call} - {folder}/{ODD}", "other" if call == "lstat" else "refused")
+            return
+        name = self.any_name()
+        octets = self.texts.get(name) or str(number_of(name))
+        found = "done" if call == "open" else f"file {len(octets)}"
+        there = [found] if folder == "cur" or name in self.texts else []
+        self.add(f"{call} - {folder}/{name}{':2,S' * (folder == 'cur')}", "absent", *there)
 
     def flush_files(self):
         """Those that go away all the time may be refused."""
@@ -104,7 +111,7 @@ class BusyList:
 
     def grow(self, count):
         for _ in range(count):
-            self.source.choice((self.put, self.put, self.lstat, self.look, self.flush_files, self.stat, self.fsync_folder,
+            self.source.choice((self.put, self.put, self.look, self.look, self.flush_files, self.stat, self.fsync_folder,
                                 self.list, self.list))()
 
 

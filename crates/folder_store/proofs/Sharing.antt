@@ -5,7 +5,10 @@ use Rattle.std.proofs.lemmas.List.Elements.{filter-append}
 use Rattle.std.specs.Prelude.{IfOk, string_bytes}
 use Rattle.mail_terms.specs.UniqueId.{has_id}
 use Rattle.mail_store.specs.declared.maildir.disk.Folder.{Folder, TheVariants.{New, Cur}}
-use Rattle.folder_store.specs.declared.mail_folders.FoundNames.{FoundNames}
+use Rattle.folder_store.specs.declared.{
+  listed_names.Opened.{Opened, TheVariants.{File, Gone, Shut}},
+  mail_folders.FoundNames.{FoundNames},
+}
 use Rattle.std.specs.IoError.{error_kind}
 use Rattle.system_calls.specs.declared.refusal.Denial.{Denial}
 use Rattle.mail_store.specs.declared.fault.StoreFault.{StoreFault}
@@ -15,7 +18,7 @@ use Rattle.folder_store.specs.{
   HostAnswers.{refuses_links},
   MailCalls.{MakesDraft, Then, TellsFiles, file_names, odd_names},
   MailFolders.{Directories, Moved, odd_names_in, unopened_in},
-  SharedCalls.{AddsNames, Did, IsSame, Links, Shared},
+  SharedCalls.{AddsNames, Did, IsOpenedAs, IsSame, Links, Shared},
 }
 use Rattle.folder_store.proofs.{MailMoves.{on, rest}, Refusing.{missing_absent}}
 
@@ -99,6 +102,27 @@ moved_odd Cur a b moved = moved.odd_cur
 
 seen_moves : (a b : Shared) → Did IsSame a b → Moved a.directories b.directories
 seen_moves a b did = subst (Moved a.directories) (sym did.1.2) did.1.1
+
+moved_opened : {H : Type 0} (folder : Folder) (name : List ℕ) (a b : Directories) (opened : Opened H) → Moved a b
+    → IsOpenedAs b folder name opened → IsOpenedAs a folder name opened
+moved_opened folder name a b (File file) moved is = sym (ap (λ us. has_id us name) (moved_unopened folder a b moved)) ∙ is
+moved_opened folder name a b Gone moved is = sym (ap (λ us. has_id us name) (moved_unopened folder a b moved)) ∙ is
+moved_opened folder name a b (Shut kind why) moved is = (
+  sym (ap (λ us. has_id us name) (moved_unopened folder a b moved)) ∙ is.0,
+  sym (ap (λ os. has_id os name) (moved_odd folder a b moved)) ∙ is.1,
+)
+
+answer_opened : {H : Type 0} (folder : Folder) (name : List ℕ) (a b : Directories) (r : Result (Opened H) Denial) → Moved a b
+    → IfOk r (IsOpenedAs b folder name) → IfOk r (IsOpenedAs a folder name)
+answer_opened folder name a b (Ok opened) moved is = moved_opened folder name a b opened moved is
+answer_opened folder name a b (Err d) moved is = tt
+
+-- a name was opened after another call
+pub opened_then : {H : Type 0} (folder : Folder) (name : List ℕ) (r : Result (Opened H) Denial) (a b c : Shared) → Did IsSame a b
+    → Did IsSame b c → IfOk r (IsOpenedAs b.directories folder name)
+    → Did IsSame a c × IfOk r (IsOpenedAs a.directories folder name)
+opened_then folder name r a b c first then is =
+    (did_on IsSame a b c first then, answer_opened folder name a.directories b.directories r (seen_moves a b first) is)
 
 moved_adds : (folder : Folder) (a b : Directories) (names : List (List ℕ)) (x y : FoundNames) → Moved a b → AddsNames b folder names x y
     → AddsNames a folder names x y

@@ -126,13 +126,14 @@ put_as name file = record {
   is_gone = false;
 }
 
--- nothing in `new` has the name: no file, and nothing that can't be opened
-abbrev pub IsFree : List ℕ → Directories → Type 0
-IsFree name d = (Contains (map name_at (entries_in New d.entries)) name → ⊥) × (Contains d.closed_new name → ⊥)
+-- nothing in a folder has the name: no file, and nothing that can't be opened
+abbrev pub IsFree : Folder → List ℕ → Directories → Type 0
+IsFree folder name d =
+    (Contains (map name_at (entries_in folder d.entries)) name → ⊥) × (Contains (closed_in folder d) name → ⊥)
 
 -- a file that was made is put into `new`, where nothing has the name
 abbrev pub PutsIntoNew : MadeFile → List ℕ → Directories → Directories → Type 0
-PutsIntoNew file name old new = IsFree name old
+PutsIntoNew file name old new = IsFree New name old
     × (new ≡ record old { entries = old.entries ++ put_as name file ∷ []; new_rests = false })
 
 -- `put`: a refused call did it, or nothing

@@ -1,11 +1,11 @@
 -- What each single call does to the folders of a Maildir that others use too, for either outcome, as POSIX and Linux
 -- have it. Names are here those in a folder.
 use Rattle.std.specs.{
-  Prelude.{◌≡◌, ◌⊎◌, ◌==◌, ◌-◌, ◌<◌, ◌↔◌, ℕ, Bool, false, true, IsTrue, List, ◌++◌, Option, None, Some},
+  Prelude.{◌≡◌, ◌≢◌, ◌⊎◌, ◌==◌, ◌-◌, ◌<◌, ◌↔◌, ◌&&◌, ℕ, Bool, false, true, IsTrue, List, ◌++◌, Option, None, Some},
   Prelude.{map, string_bytes, Result, Ok, Err, if◌then◌else◌},
   Duration.as_nanos,
   IoError.error_kind,
-  declared.time.Duration.Duration,
+  declared.{io.ErrorKind.{ErrorKind, TheVariants.NotFound}, time.Duration.Duration},
 }
 use Rattle.system_calls.specs.declared.refusal.Denial.{Denial}
 use Rattle.mail_terms.specs.UniqueId.{has_id}
@@ -15,11 +15,13 @@ use Rattle.mail_store.specs.{
 }
 use Rattle.folder_store.specs.{
   declared.{calls.FileStat.FileStat, exact_listing.ChangeTime.ChangeTime},
+  declared.calls.FileKind.{FileKind, TheVariants.{File as Regular, Folder as Dir, Other}},
+  declared.listed_names.{Lead.{Lead, TheVariants.{File, Directory, Odd}}, Opened.{Opened, TheVariants.Shut}},
   declared.mail_folders.{FoundNames.FoundNames, Sought.Sought},
-  declared.shared_calls.{ListedNames.ListedNames, Lead.{Lead, TheVariants.{File, Directory, Odd}}},
+  declared.shared_calls.ListedNames.ListedNames,
   Calls.{IsAbsent, flushes_none},
   FileFolder.MadeFile,
-  HostAnswers.{IsFolder, refuses_links},
+  HostAnswers.{IsFolder, refuses_links, tells_odd},
   MailCalls.{ListsIn, PutsIntoNew, Then, file_names, names_flushed_in, odd_names},
   MailFolders.{Directories, odd_names_in, rests_in, unknown_directories, unopened_in},
 }
@@ -62,14 +64,40 @@ ListsShared folder sought (Ok listed) old new =
 ListsShared folder sought (Err d) old new =
     Did (λ old new. (new ≡ old) × (IsAbsent d → is_there old.there folder ≡ false)) old new
 
--- a name leads to what it was when its folder was listed: a file, a folder in `cur`, or what can't be opened
-abbrev pub IsLead : Lead → (unopened odd : Bool) → Type 0
-IsLead File unopened odd = (unopened ≡ false) × (odd ≡ false)
-IsLead Directory unopened odd = (unopened ≡ true) × (odd ≡ false)
-IsLead (Odd why) unopened odd = (unopened ≡ true) × (odd ≡ true)
+-- whether a name, when its folder was listed, wasn't that of a file; and whether it was odd
+abbrev pub was_unopened : Directories → Folder → List ℕ → Bool
+was_unopened d folder name = has_id (unopened_in folder d) name
 
-abbrev pub IsLeadOf : Directories → Folder → List ℕ → Lead → Type 0
-IsLeadOf d folder name lead = IsLead lead (has_id (unopened_in folder d) name) (has_id (odd_names_in folder d) name)
+abbrev pub was_odd : Directories → Folder → List ℕ → Bool
+was_odd d folder name = has_id (odd_names_in folder d) name
+
+-- the name of a folder in `cur` isn't odd
+abbrev pub may_be_odd : FileKind → Folder → Bool
+may_be_odd Dir Cur = false
+may_be_odd _ _ = true
+
+-- stat(2) of a name that was listed: it was that of a file only if it leads to one. What it says is known at the next
+-- call
+abbrev pub StatsName : (file : Type 0) → (refused : ErrorKind → Type 0) → Result FileStat Denial → (unopened : Bool)
+    → Type 0
+StatsName file refused (Ok stat) unopened = (stat.kind ≡ Regular → file) × (stat.kind ≢ Regular → unopened ≡ true)
+StatsName file refused (Err d) unopened = refused (error_kind d.error)
+
+-- open(2) of such a name: it was that of a file if fstat(2) doesn't tell that a folder was opened
+abbrev pub OpensName : {H : Type 0} → (H → FileStat → Type 0) → (ErrorKind → Type 0) → Result H Denial
+    → (unopened : Bool) → Type 0
+OpensName told refused (Ok file) unopened = (stat : FileStat) → told file stat → IsFolder stat ↔ (unopened ≡ true)
+OpensName told refused (Err d) unopened = refused (error_kind d.error)
+
+-- lstat(2) of a name for which one of these may have been refused just before. If that was EACCES, ELOOP, ENOTDIR, or
+-- that no file can have it: what has the name can't be opened. If it was ENOENT: nor can a link, which leads nowhere;
+-- but if nothing has the name, that was a file's
+abbrev pub LooksUp : (ErrorKind → Type 0) → Folder → Result FileStat Denial → (unopened odd : Bool) → Type 0
+LooksUp refused folder (Ok stat) unopened odd =
+    ((kind : ErrorKind) → refused kind → tells_odd kind ≡ true → unopened ≡ true)
+    × (refused NotFound → (stat.kind ≡ Other) ↔ (unopened ≡ true))
+    × (odd ≡ (unopened && may_be_odd stat.kind folder))
+LooksUp refused folder (Err d) unopened odd = IsAbsent d → refused NotFound → unopened ≡ false
 
 -- link(2) of a file that was made to a name in `new`, where nothing has it. EPERM, EOPNOTSUPP, EXDEV, EMLINK: nothing
 -- was done; another refused call did it, or nothing
@@ -92,6 +120,21 @@ abbrev pub unknown_shared : Shared
 unknown_shared = record { directories = unknown_directories; new_listed = None; cur_listed = None }
 
 -- ---- what a device does in several calls
+
+-- a name leads to what it was when its folder was listed: a file, a folder in `cur`, or what can't be opened
+abbrev pub IsLead : Lead → (unopened odd : Bool) → Type 0
+IsLead File unopened odd = (unopened ≡ false) × (odd ≡ false)
+IsLead Directory unopened odd = (unopened ≡ true) × (odd ≡ false)
+IsLead (Odd why) unopened odd = (unopened ≡ true) × (odd ≡ true)
+
+abbrev pub IsLeadOf : Directories → Folder → List ℕ → Lead → Type 0
+IsLeadOf d folder name lead = IsLead lead (was_unopened d folder name) (was_odd d folder name)
+
+-- a name was opened, and is what it was when its folder was listed
+abbrev pub IsOpenedAs : {H : Type 0} → Directories → Folder → List ℕ → Opened H → Type 0
+IsOpenedAs d folder name (Shut kind why) =
+    (was_unopened d folder name ≡ true) × (was_odd d folder name ≡ may_be_odd kind folder)
+IsOpenedAs d folder name opened = was_unopened d folder name ≡ false
 
 -- a device knows when its folders were last listed
 abbrev pub KnowsListed : Type 0 → Shared → (new cur : Option ChangeTime) → Type 0

@@ -1,16 +1,11 @@
 //! Folders of a file system, over its single calls.
 
-ghost use Rattle.std.specs.{
-  IoError.error_kind,
-  Option.option_copied,
-  Prelude.{◌≡◌, IfOk, IsSomeAnd, string_bytes},
-};
-ghost use Rattle.system_calls.specs.Line.{IsRefusalText};
+ghost use Rattle.std.specs.{Option.option_copied, Prelude.{◌≡◌, IfOk, string_bytes}};
 ghost use Rattle.folder_store.specs.{
   Calls.{Creates, IsAbsent, Stats, SyncsNames},
   FileFolder.unknown_directory,
   Handles.{NotesFolder, unflushed_path},
-  HostAnswers.{TellsThere, tells_odd},
+  HostAnswers.TellsThere,
   HostPaths.{AreIn, AreInMaildir, folder_of, path_named},
   Kept.KeptHolds,
   Sound.{WhereFilesSound, WhereFilesStay},
@@ -27,13 +22,14 @@ use crate::kept_file::{
     append_kept, cut_kept, flush_kept, flush_links, flush_names, make_marked, put_made, size_of,
     sync_names,
 };
+use crate::listed_names::tells_odd;
 use crate::new_file::{CallsNewFile, answer_of};
 use crate::opened_file::{IRREGULAR, LEADS_NOWHERE, open_found, read_all, read_edges, read_piece};
 use crate::process_mark::ProcessMark;
 use crate::sweep::{Scratch, sweep};
 use crate::wanted::Wanted;
 use mail_store::{Edges, StoreFault};
-use std::alloc::{AllocError, Global};
+use std::alloc::Global;
 use std::fs::Metadata;
 use std::io::ErrorKind;
 use std::rt::Files;
@@ -235,24 +231,10 @@ impl<'a, R: Files + AllocGlobal> CallsFolder<'a, HostCalls<'a, R>> {
         is_there(flush_links(&self.calls, &self.paths, &mut self.handles, name))
     }
 
-    // The path of what has a name and can't be opened, and why; None if it can be, or has gone.
-    pub(crate) fn obstruction(&mut self, name: &str) -> Result<Option<Vec<u8>>, Denial> {
-        match self.open_if_there(name) {
-            Ok(_file) => Ok(None),
-            Err(fault) if self.is_odd(name, &fault) => Ok(Some(text_of(self.paths.alloc, fault)?)),
-            Err(fault) => Err(fault),
-        }
-    }
-
     // Whether a name can't be opened because of what it stands for, or of its rights. If it can't even be looked up,
     // that is because of the folder.
     fn is_odd(&self, name: &str, fault: &Denial) -> bool {
         (tells_odd(fault) || fault.is_own()) && self.look_up(name).is_ok()
-    }
-
-    // Whether a name stands for a folder itself.
-    pub(crate) fn is_folder(&self, name: &str) -> bool {
-        matches!(self.look_up(name), Ok(found) if found.is_dir())
     }
 
     // Whether a name stands for a link itself.
@@ -304,29 +286,6 @@ fn is_there<T: Drop>(answer: Result<T, Denial>) -> Result<bool, Denial>
             _ => Err(fault),
         },
     }
-}
-
-/// The path and the reason of a refused call.
-fn text_of(alloc: Global, fault: Denial) -> Result<Vec<u8>, Denial>
-    ensures { IfOk result (λ text. IsSomeAnd fault.path (λ path. IsRefusalText (string_bytes path) text.items)) }
-{
-    match fault.into_refusal() {
-        Some(refusal) => Ok(refusal.text(alloc)?),
-        None => Err(Denial::from(AllocError)),
-    }
-}
-
-/// Whether a file can't be opened because of what its name stands for, or of its rights.
-fn tells_odd(fault: &Denial) -> bool
-    ensures { result ≡ tells_odd (error_kind fault.now.error) }
-{
-    matches!(
-        fault.kind(),
-        ErrorKind::PermissionDenied
-            | ErrorKind::FilesystemLoop
-            | ErrorKind::NotADirectory
-            | ErrorKind::InvalidFilename
-    )
 }
 
 impl<'a, C: FileCalls> FolderState for CallsFolder<'a, C> {

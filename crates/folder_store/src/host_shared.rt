@@ -3,13 +3,13 @@
 ghost use Rattle.std.specs.Prelude.{◌≡◌, IfOk, Ok, false, map, string_bytes, true};
 ghost use Rattle.folder_store.specs.SharedCalls.{unknown_shared};
 
-use crate::calls::{FileCalls, FileStat};
+use crate::calls::{Access, FileCalls, FileStat};
 use crate::exact_listing::ChangeTime;
 use crate::flush_pass::{Found, set_of, unsettled};
 use crate::host::{CallsFolder, HostFolder};
 use crate::host_calls::HostCalls;
 use crate::mail_folders::Sought;
-use crate::shared_calls::{Lead, ListedNames, SharedCalls};
+use crate::shared_calls::{ListedNames, SharedCalls};
 use crate::wanted::Wanted;
 use mail_store::{Folder, stem};
 use std::alloc::{AllocError, Global};
@@ -80,6 +80,15 @@ impl<'a, R: Files + Clock + AllocGlobal + Clone + Drop> CallsShared<'a, R, HostC
         )
     }
 
+    // The calls of the whole file system.
+    fn calls(&self) -> HostCalls<'a, R>
+        ensures { result.system ≡ self.now.system }
+    {
+        HostCalls {
+            system: self.system,
+        }
+    }
+
     fn folder(&self, folder: Folder) -> &HostFolder<'a, R>
         ensures in_new { folder ≡ Folder.New → result.now ≡ self.now.new_folder }
         ensures in_cur { folder ≡ Folder.Cur → result.now ≡ self.now.cur_folder }
@@ -132,9 +141,15 @@ impl<'a, R: Files + Clock + AllocGlobal + Clone + Drop> SharedCalls
     for CallsShared<'a, R, HostCalls<'a, R>> {
     type Made = OpenAt<R::File>;
 
+    type File = OpenAt<R::File>;
+
     ghost shared = { λ _. unknown_shared };
 
-    ghost was_free = { λ _ _. ⊥ };
+    ghost was_free = { λ _ _ _. ⊥ };
+
+    ghost was_file = { λ _ _ _. ⊥ };
+
+    ghost was_refused = { λ _ _ _ _. ⊥ };
 
     // Of the file system nothing is known.
     ghost sound = { λ _. ⊥ };
@@ -151,14 +166,22 @@ impl<'a, R: Files + Clock + AllocGlobal + Clone + Drop> SharedCalls
         })
     }
 
-    fn look_at(&mut self, folder: Folder, name: &str) -> Result<Lead, Denial> {
-        let Some(why) = self.folder_mut(folder).obstruction(name)? else {
-            return Ok(Lead::File);
-        };
-        if folder == Folder::Cur && self.cur_folder.is_folder(name) {
-            return Ok(Lead::Directory);
-        }
-        Ok(Lead::Odd(why))
+    fn stat_name(&mut self, folder: Folder, name: &str) -> Result<FileStat, Denial> {
+        let path = self.folder(folder).path_of(name)?;
+        self.calls().stat(path.as_str())
+    }
+
+    fn open(&mut self, folder: Folder, name: &str) -> Result<OpenAt<R::File>, Denial> {
+        let path = self.folder(folder).path_of(name)?;
+        self.calls().open(path.as_str(), Access::Read)
+    }
+
+    fn fstat(&self, file: &OpenAt<R::File>) -> Result<FileStat, Denial> {
+        self.calls().fstat(file)
+    }
+
+    fn lstat(&mut self, folder: Folder, name: &str) -> Result<FileStat, Denial> {
+        Ok(FileStat::of(&self.folder(folder).look_up(name)?))
     }
 
     // A file that a reader moves meanwhile is looked up again.
@@ -173,10 +196,6 @@ impl<'a, R: Files + Clock + AllocGlobal + Clone + Drop> SharedCalls
     fn link(&mut self, file: &OpenAt<R::File>, name: &str) -> Result<(), Denial> {
         let to = self.new_folder.path_of(name)?;
         self.system.link(file.path.as_str(), to.as_str())
-    }
-
-    fn lstat(&mut self, name: &str) -> Result<FileStat, Denial> {
-        Ok(FileStat::of(&self.new_folder.look_up(name)?))
     }
 
     fn rename(&mut self, file: &OpenAt<R::File>, name: &str) -> Result<(), Denial> {
@@ -200,8 +219,8 @@ impl<'a, R: Files + Clock + AllocGlobal + Clone + Drop> SharedCalls
         matches!(self.new_folder.look_up(name), Ok(found) if !found.is_file())
     }
 
-    fn refusal(&self, name: &str, words: &str) -> Denial {
-        self.new_folder.refusal(name, words)
+    fn refusal(&self, folder: Folder, name: &str, words: &str) -> Denial {
+        self.folder(folder).refusal(name, words)
     }
 
     fn folder_refusal(&self, folder: Folder, words: &str) -> Denial {

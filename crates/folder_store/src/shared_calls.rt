@@ -1,6 +1,6 @@
 //! The calls that use the folders of a Maildir in which others move files, one a method, and what each promises.
 
-use crate::calls::{FileStat, MadeHandle};
+use crate::calls::{FileStat, MadeHandle, OpenHandle};
 use crate::exact_listing::ChangeTime;
 use crate::mail_folders::Sought;
 use mail_store::Folder;
@@ -14,47 +14,52 @@ pub struct ListedNames {
     pub change: ChangeTime,
 }
 
-/// What a name that was listed leads to.
-#[derive(Drop)]
-pub enum Lead {
-    /// A file, or by now nothing.
-    File,
-    /// A folder in `cur`.
-    Directory,
-    /// What can't be opened: its path, and why.
-    Odd(Vec<u8>),
-}
-
 /// A file system, as one device asks it for the folders `new` and `cur` of a Maildir, each call of which may be
 /// refused. Readers may move files between the two, change their marks and take files away before each call.
 pub trait SharedCalls {
-    ghost use Rattle.std.specs.Prelude.{◌≡◌, ℕ, List, false, true, IfErr, IfOk, Ok};
+    ghost use Rattle.std.specs.{Prelude.{◌≡◌, ℕ, List, false, true, IfErr, IfOk, Ok}, declared.io.ErrorKind.ErrorKind};
+    ghost use Rattle.mail_store.specs.declared.maildir.disk.Folder.{Folder};
     ghost use Rattle.folder_store.specs.MailCalls.{FlushesFiles, PutsDraft};
     ghost use Rattle.folder_store.specs.Calls.{Creates, IsAbsent, answered};
     ghost use Rattle.folder_store.specs.SharedCalls.{
       Did,
-      IsLeadOf,
       IsSame,
       Links,
       ListsShared,
+      LooksUp,
+      OpensName,
       Shared,
       StatsFolder,
+      StatsName,
       SyncsFolder,
+      was_odd,
+      was_unopened,
       listed_in,
     };
 
     type Made: MadeHandle + Drop;
 
+    type File: OpenHandle + Drop;
+
     // The folders, as its calls see them.
     ghost shared: { Self → Shared };
 
-    // A name that nothing in `new` had when lstat(2) was asked for it, by the call before.
-    ghost was_free: { Self → List ℕ → Type 0 };
+    // A name that nothing in a folder had when lstat(2) was asked for it, by the call before.
+    ghost was_free: { Self → Folder → List ℕ → Type 0 };
+
+    // A name in a folder that leads to a regular file, by stat(2), the call before. Nothing else is opened: a pipe that
+    // nobody writes to would be waited for.
+    ghost was_file: { Self → Folder → List ℕ → Type 0 };
+
+    // A name in a folder for which stat(2) or open(2) was refused, and how, by the call before.
+    ghost was_refused: { Self → Folder → List ℕ → ErrorKind → Type 0 };
 
     // The premise: so far the system did what its calls promise, flushed folders when it was asked to, and others did
     // nothing but move, mark and take away files, and gave no name in `new` between lstat(2) of it and rename(2) to it.
-    // Each change gives a folder another time of change, once the folder has rested for a step of the clock. What can't
-    // be opened when a folder is listed is so until its names are looked at. If it holds after a call, it held before.
+    // Each change gives a folder another time of change, once the folder has rested for a step of the clock. Only names
+    // that the last listing of their folder told are looked at by stat(2) and open(2): what couldn't be opened then is
+    // so until they are, and nothing gets or loses a name between one of them that is refused and lstat(2) of it. If it
+    // holds after a call, it held before.
     ghost sound: { Self → Type 0 };
 
     /// stat(2) of a folder.
@@ -69,10 +74,30 @@ pub trait SharedCalls {
         ensures { sound self.new → sound self.old
             × ListsShared folder sought.entry result (shared self.old) (shared self.new) };
 
-    /// What a name that was listed leads to, by stat(2), open(2), fstat(2) and lstat(2).
-    fn look_at(&mut self, folder: Folder, name: &str) -> Result<Lead, Denial>
+    /// stat(2) of a name.
+    fn stat_name(&mut self, folder: Folder, name: &str) -> Result<FileStat, Denial>
         ensures { sound self.new → sound self.old × Did IsSame (shared self.old) (shared self.new)
-            × IfOk result (IsLeadOf (shared self.old).directories folder name.now) };
+            × StatsName (was_file self.new folder name.now) (was_refused self.new folder name.now) result
+            (was_unopened (shared self.old).directories folder name.now) };
+
+    /// open(2) of a name, to read.
+    fn open(&mut self, folder: Folder, name: &str) -> Result<Self::File, Denial>
+        requires { sound self.old → was_file self.old folder name.now }
+        ensures { sound self.new → sound self.old × Did IsSame (shared self.old) (shared self.new)
+            × OpensName Self.File.told (was_refused self.new folder name.now) result
+            (was_unopened (shared self.old).directories folder name.now) };
+
+    /// fstat(2)
+    fn fstat(&self, file: &Self::File) -> Result<FileStat, Denial>
+        ensures { IfOk result (Self.File.told file.now) };
+
+    /// lstat(2) of a name.
+    fn lstat(&mut self, folder: Folder, name: &str) -> Result<FileStat, Denial>
+        ensures { sound self.new → sound self.old × Did IsSame (shared self.old) (shared self.new)
+            × IfErr result (λ d. IsAbsent d → was_free self.new folder name.now)
+            × LooksUp (was_refused self.old folder name.now) folder result
+            (was_unopened (shared self.old).directories folder name.now)
+            (was_odd (shared self.old).directories folder name.now) };
 
     /// Flushes the bytes of each file whose name has one of these stems, by listings, and open(2) and fsync(2) of each.
     /// False, only if `may_miss`, if one of them has no file.
@@ -92,14 +117,9 @@ pub trait SharedCalls {
         ensures { sound self.new → sound self.old × Self.Made.sound file.now
             × Did (Links (Self.Made.made file.now) name.now result) (shared self.old) (shared self.new) };
 
-    /// lstat(2) of a name in `new`.
-    fn lstat(&mut self, name: &str) -> Result<FileStat, Denial>
-        ensures { sound self.new → sound self.old × Did IsSame (shared self.old) (shared self.new)
-            × IfErr result (λ d. IsAbsent d → was_free self.new name.now) };
-
     /// rename(2) of a file that was made to a name in `new`, which was free just before.
     fn rename(&mut self, file: &Self::Made, name: &str) -> Result<(), Denial>
-        requires { sound self.old → was_free self.old name.now }
+        requires { sound self.old → was_free self.old Folder.New name.now }
         ensures { sound self.new → sound self.old × Self.Made.sound file.now
             × Did (PutsDraft (Self.Made.made file.now) name.now (answered result))
             (shared self.old) (shared self.new) };
@@ -119,8 +139,8 @@ pub trait SharedCalls {
     /// Whether lstat(2) says that what has a name in `new` is no file. Nothing is promised of it.
     fn is_other(&self, name: &str) -> bool;
 
-    /// Why nothing is put under a name.
-    fn refusal(&self, name: &str, words: &str) -> Denial
+    /// Why a name isn't used.
+    fn refusal(&self, folder: Folder, name: &str, words: &str) -> Denial
         ensures { IsAbsent result → ⊥ };
 
     /// Why a folder isn't used.

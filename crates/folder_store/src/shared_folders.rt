@@ -14,9 +14,10 @@ ghost use Rattle.folder_store.specs.{
 
 use crate::calls::FileKind;
 use crate::exact_listing::ChangeTime;
+use crate::listed_names::{Lead, look_at};
 use crate::mail_folders::FoundNames;
 use crate::opened_file::IRREGULAR;
-use crate::shared_calls::{Lead, SharedCalls};
+use crate::shared_calls::SharedCalls;
 use crate::system::are_flushed;
 use mail_store::Folder;
 use std::alloc::Global;
@@ -90,6 +91,7 @@ pub fn check_rest<S: SharedCalls>(
 
 /// Adds a name where it belongs, by what it leads to. The name of a folder in `cur` is left out: no delivery needs it.
 fn add_name<S: SharedCalls>(
+    alloc: Global,
     calls: &mut S,
     folder: Folder,
     name: String,
@@ -99,7 +101,7 @@ fn add_name<S: SharedCalls>(
     ensures { S.sound calls.new → S.sound calls.old × Did IsSame (S.shared calls.old) (S.shared calls.new)
         × OnOk result (AddsNames (S.shared calls.old).directories folder (string_bytes name ∷ []) found.old found.new) }
 {
-    match calls.look_at(folder, name.as_str())? {
+    match look_at(alloc, calls, folder, name.as_str())? {
         Lead::File => found.files.push(name)?,
         Lead::Directory => {}
         Lead::Odd(why) => {
@@ -112,6 +114,7 @@ fn add_name<S: SharedCalls>(
 
 /// Adds the names of a folder.
 fn add_names<S: SharedCalls>(
+    alloc: Global,
     calls: &mut S,
     folder: Folder,
     names: Vec<String>,
@@ -123,7 +126,7 @@ fn add_names<S: SharedCalls>(
         found.old found.new) }
 {
     for name in names {
-        add_name(calls, folder, name, found, obstructions)?;
+        add_name(alloc, calls, folder, name, found, obstructions)?;
     }
     Ok(())
 }
@@ -144,8 +147,8 @@ pub fn look_up<S: SharedCalls>(
         files: Vec::new(alloc),
         odd: Vec::new(alloc),
     };
-    add_names(calls, Folder::New, in_new, &mut found, obstructions)?;
-    add_names(calls, Folder::Cur, in_cur, &mut found, obstructions)?;
+    add_names(alloc, calls, Folder::New, in_new, &mut found, obstructions)?;
+    add_names(alloc, calls, Folder::Cur, in_cur, &mut found, obstructions)?;
     Ok(found)
 }
 
@@ -156,7 +159,7 @@ fn taken<S: SharedCalls>(calls: &S, name: &str) -> Denial {
     } else {
         "is there already"
     };
-    calls.refusal(name, words)
+    calls.refusal(Folder::New, name, words)
 }
 
 /// Whether a file can't be given a second name although it may be given another one.
@@ -178,7 +181,7 @@ fn rename_free<S: SharedCalls>(calls: &mut S, file: &S::Made, name: &str) -> Res
     ensures { S.sound calls.new → S.sound calls.old
         × Did (PutsDraft (S.Made.made file.now) name.now (answered result)) (S.shared calls.old) (S.shared calls.new) }
 {
-    match calls.lstat(name) {
+    match calls.lstat(Folder::New, name) {
         Ok(_) => Err(taken(calls, name)),
         Err(fault) => {
             if fault.kind() == ErrorKind::NotFound {

@@ -37,12 +37,12 @@ module _ {C M O : Type 0} {calls : CallGhosts C M O} {made : MadeGhosts M} {open
   abbrev pub IsAt : (path : List ℕ) → HostFile (CallsFolder C M O calls made open') state → Type 0
   IsAt path file = IsFileAt file.folder.paths file.name.now path
 
-  module _ {R S N : Type 0} {shared : SharedGhosts (CallsShared R C M O calls made open') S}
-      {drafts : MadeGhosts S} where
+  module _ {R S F N : Type 0} {shared : SharedGhosts (CallsShared R C M O calls made open') S F}
+      {drafts : MadeGhosts S} {mails : OpenGhosts F} where
     -- a store is made for a destination: a Maildir at its path; or an mboxrd file there, and what is cut off from it is
     -- kept at another path
     abbrev pub StoreFor : Dest → (path rests : List ℕ)
-        → Store (FolderMaildir (CallsFolders (CallsShared R C M O calls made open') S shared drafts) N)
+        → Store (FolderMaildir (CallsFolders (CallsShared R C M O calls made open') S F shared drafts mails) N)
         (HostFile (CallsFolder C M O calls made open') state) → Type 0
     StoreFor (ToMaildir name) path rests (Maildir maildir) =
         AreInMaildir maildir.folders.calls.new_folder.paths path (codes "new")
@@ -53,28 +53,28 @@ module _ {C M O : Type 0} {calls : CallGhosts C M O} {made : MadeGhosts M} {open
 
     -- something is kept of what was cut off from it
     abbrev pub StoreKeepsRests : Bool
-        → Store (FolderMaildir (CallsFolders (CallsShared R C M O calls made open') S shared drafts) N)
+        → Store (FolderMaildir (CallsFolders (CallsShared R C M O calls made open') S F shared drafts mails) N)
         (HostFile (CallsFolder C M O calls made open') state) → Bool → Type 0
     StoreKeepsRests is_idle (Maildir maildir) keeps = keeps ≡ false
     StoreKeepsRests is_idle (Mboxrd mbox) keeps = KeepsRests is_idle mbox.cut_off keeps
 
     -- what bears the names of messages in a Maildir and can't be opened
     abbrev pub obstructions_of :
-        Store (FolderMaildir (CallsFolders (CallsShared R C M O calls made open') S shared drafts) N)
+        Store (FolderMaildir (CallsFolders (CallsShared R C M O calls made open') S F shared drafts mails) N)
         (HostFile (CallsFolder C M O calls made open') state) → List (Vec ℕ Global)
     obstructions_of (Maildir maildir) = maildir.folders.obstructions.items
     obstructions_of (Mboxrd mbox) = []
 
     -- a delivery into a Maildir was refused because something that is no file has its name
     abbrev pub is_name_taken :
-        Store (FolderMaildir (CallsFolders (CallsShared R C M O calls made open') S shared drafts) N)
+        Store (FolderMaildir (CallsFolders (CallsShared R C M O calls made open') S F shared drafts mails) N)
         (HostFile (CallsFolder C M O calls made open') state) → Bool
     is_name_taken (Maildir maildir) = maildir.folders.is_name_taken
     is_name_taken (Mboxrd mbox) = false
 
     -- the path of a folder whose names weren't flushed because the system flushes no folders: the store's first
     abbrev pub unflushed_of :
-        Store (FolderMaildir (CallsFolders (CallsShared R C M O calls made open') S shared drafts) N)
+        Store (FolderMaildir (CallsFolders (CallsShared R C M O calls made open') S F shared drafts mails) N)
         (HostFile (CallsFolder C M O calls made open') state)
         → HostFile (CallsFolder C M O calls made open') state → Option (List ℕ)
     unflushed_of (Maildir maildir) seen_file = option_or
@@ -85,7 +85,7 @@ module _ {C M O : Type 0} {calls : CallGhosts C M O} {made : MadeGhosts M} {open
 
     -- this was noticed of a run's devices; of a folder whose names weren't flushed only if reasons are asked for
     pub record IsNoticed (says_why is_idle : Bool)
-        (store : Store (FolderMaildir (CallsFolders (CallsShared R C M O calls made open') S shared drafts) N)
+        (store : Store (FolderMaildir (CallsFolders (CallsShared R C M O calls made open') S F shared drafts mails) N)
         (HostFile (CallsFolder C M O calls made open') state))
         (seen_file : HostFile (CallsFolder C M O calls made open') state) (noticed : Noticed) : Type 0 where
       pub rests : StoreKeepsRests is_idle store noticed.keeps_rests

@@ -7,7 +7,7 @@ use crate::calls::{
 use crate::stores::{listing_of, mark_of};
 use crate::trouble::{Result, Trouble};
 use folder_store::{
-    CallsFolder, CallsShared, ChangeTime, FileStat, HostShared, Lead, MadeHandle, SharedCalls,
+    CallsFolder, CallsShared, ChangeTime, FileKind, FileStat, HostShared, MadeHandle, SharedCalls,
     Sought,
 };
 use mail_store::{AccountId, Asked, Folder, account_id};
@@ -31,6 +31,8 @@ struct SharedPlayer<S: SharedCalls> {
     listing: Listing,
     /// What was made, in the order in which it was asked for. None is what was refused.
     made: Vec<Option<S::Made>>,
+    /// The same of what was opened.
+    opened: Vec<Option<S::File>>,
     /// The time of change of `new` when it was last listed.
     new_listed: Option<ChangeTime>,
     /// The same of `cur`.
@@ -84,17 +86,6 @@ fn tell_names(answers: &mut Vec<u8>, names: &[String]) -> Result<()> {
     Ok(())
 }
 
-/// Adds what a name leads to.
-fn tell_lead(answers: &mut Vec<u8>, answer: std::result::Result<Lead, Denial>) -> Result<()> {
-    match answer {
-        Ok(Lead::File) => writeln!(answers, "file")?,
-        Ok(Lead::Directory) => writeln!(answers, "folder")?,
-        Ok(Lead::Odd(_why)) => writeln!(answers, "odd")?,
-        Err(denial) => writeln!(answers, "{}", word_of(&denial))?,
-    }
-    Ok(())
-}
-
 /// Adds an answer of yes or no.
 fn tell_whether(answers: &mut Vec<u8>, answer: std::result::Result<bool, Denial>) -> Result<()> {
     match answer {
@@ -141,13 +132,33 @@ impl<S: SharedCalls> SharedPlayer<S> {
         }
     }
 
-    /// Looks what a name in a folder leads to.
-    fn look(&mut self, path: &str, answers: &mut Vec<u8>) -> Result<()> {
+    /// Makes the call of this name on a name in a folder.
+    fn call_on_name(&mut self, call: &str, path: &str, answers: &mut Vec<u8>) -> Result<()> {
         let Some((folder, name)) = path.split_once('/') else {
             return Err(Trouble::Other);
         };
-        let answer = self.calls.look_at(folder_of(folder)?, name);
-        tell_lead(answers, answer)
+        let folder = folder_of(folder)?;
+        match call {
+            "stat-name" => tell_stat(answers, self.calls.stat_name(folder, name)),
+            "open" => keep(
+                &mut self.opened,
+                answers,
+                open(&mut self.calls, folder, name),
+            ),
+            _ => tell_stat(answers, self.calls.lstat(folder, name)),
+        }
+    }
+
+    /// What fstat(2) tells of what was opened, if it was.
+    fn fstat(&self, number: &str, answers: &mut Vec<u8>) -> Result<()> {
+        let number: usize = number.parse()?;
+        match self.opened.get(number) {
+            Some(Some(file)) => tell_stat(answers, self.calls.fstat(file)),
+            _ => {
+                writeln!(answers, "no handle")?;
+                Ok(())
+            }
+        }
     }
 
     /// Flushes the files with these stems, each of which has one.
@@ -170,10 +181,9 @@ impl<S: SharedCalls> SharedPlayer<S> {
             }
             "list" => self.list(folder_of(word)?, false, answers),
             "list-all" => self.list(folder_of(word)?, true, answers),
-            "look" => self.look(word, answers),
             "flush-files" => self.flush_files(word, answers),
             "create" => keep(&mut self.made, answers, self.calls.create(word)),
-            "lstat" => tell_stat(answers, self.calls.lstat(word)),
+            "stat-name" | "open" | "lstat" => self.call_on_name(call, word, answers),
             "fsync-folder" => tell_done(answers, self.calls.fsync_folder(folder_of(word)?)),
             _ => Err(Trouble::Other),
         }
@@ -199,11 +209,14 @@ impl<S: SharedCalls> SharedPlayer<S> {
 }
 
 impl<S: SharedCalls> Player for SharedPlayer<S> {
-    // A line is a call's name; the number of a file that was made, or `-`; a folder, a name, stems or octets.
+    // A line is a call's name; the number of a file that was made or opened, or `-`; a folder, a name, stems or octets.
     fn call_line(&mut self, words: (&str, &str, &str), answers: &mut Vec<u8>) -> Result<()> {
         let (call, number, word) = words;
         if number == "-" {
             return self.call(call, word, answers);
+        }
+        if call == "fstat" {
+            return self.fstat(number, answers);
         }
         if let Some(mut file) = taken(&mut self.made, number)? {
             self.call_on_made(&mut file, call, word, answers)?;
@@ -219,6 +232,19 @@ impl<S: SharedCalls> Player for SharedPlayer<S> {
     }
 }
 
+/// Opens a name, if stat(2) says that it leads to a regular file.
+fn open<S: SharedCalls>(
+    calls: &mut S,
+    folder: Folder,
+    name: &str,
+) -> std::result::Result<S::File, Denial> {
+    let found = calls.stat_name(folder, name)?;
+    match found.kind {
+        FileKind::File => calls.open(folder, name),
+        _ => Err(calls.refusal(folder, name, "no file")),
+    }
+}
+
 /// Gives a file that was made a name, if lstat(2) says that nothing has it.
 fn rename<S: SharedCalls>(
     calls: &mut S,
@@ -226,7 +252,7 @@ fn rename<S: SharedCalls>(
     name: &str,
     answers: &mut Vec<u8>,
 ) -> Result<()> {
-    match calls.lstat(name) {
+    match calls.lstat(Folder::New, name) {
         Ok(found) => tell_stat(answers, Ok(found)),
         Err(denial) => {
             if denial.kind() == ErrorKind::NotFound {
@@ -246,6 +272,7 @@ fn player_on<S: SharedCalls + Drop>(alloc: Global, calls: S) -> Result<SharedPla
         account: account_id("bench", 110, "bench"),
         listing: listing_of(alloc, SOUGHT as u32)?,
         made: Vec::new(alloc),
+        opened: Vec::new(alloc),
         new_listed: None,
         cur_listed: None,
     })

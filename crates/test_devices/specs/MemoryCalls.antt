@@ -1,12 +1,12 @@
 -- A file system in memory, call by call.
 use Rattle.std.specs.{
-  Prelude.{◌≡◌, ◌≢◌, ℕ, List, length, Some, None, string_bytes},
+  Prelude.{◌≡◌, ◌≢◌, ℕ, List, false, length, Some, None, string_bytes},
   IoError.error_kind,
   declared.io.ErrorKind.{ErrorKind, TheVariants.{InvalidInput, NotFound, Unsupported}},
 }
 use Rattle.system_calls.specs.declared.refusal.Denial.{Denial}
 use Rattle.mail_store.specs.Durable.{Blob}
-use Rattle.folder_store.specs.{Calls.{OpenPath, Tree}, FileFolder.find}
+use Rattle.folder_store.specs.{Calls.{OpenPath, Tree}, FileFolder.find, HostAnswers.tells_odd}
 use Rattle.test_devices.specs.declared.memory_calls.{MemoryCalls.MemoryCalls, MemoryOpened.MemoryOpened}
 
 -- an open file or folder
@@ -27,7 +27,8 @@ IsBare t path = find path t.directory.entries ≡ None
 
 -- a refusal that says nothing of the files
 abbrev pub IsRefusalKind : ErrorKind → Type 0
-IsRefusalKind kind = (kind ≢ NotFound) × (kind ≢ InvalidInput) × (kind ≢ Unsupported)
+IsRefusalKind kind =
+    (kind ≢ NotFound) × (kind ≢ InvalidInput) × (kind ≢ Unsupported) × (tells_odd kind ≡ false)
 
 abbrev pub IsRefusal : Denial → Type 0
 IsRefusal d = IsRefusalKind (error_kind d.error)

@@ -4,7 +4,7 @@ use Rattle.std.specs.{
   Prelude.{bytes_eq, length, option_map, string_bytes},
   List.find,
 }
-use Rattle.mail_store.specs.declared.maildir.disk.Folder.TheVariants.{New}
+use Rattle.mail_store.specs.declared.maildir.disk.Folder.{Folder}
 use Rattle.test_devices.specs.declared.memory_folders.StoredMail.{StoredMail}
 use Rattle.folder_store.specs.{MailFolders.{Directories, MailFile, is_told}, MailPower.IsMailLeftAs}
 
@@ -21,13 +21,13 @@ stored_file k = record {
   is_gone = k.is_gone;
 }
 
--- it has a name in `new`, and no reader took it away
-abbrev pub is_new_at : List ℕ → MailFile → Bool
-is_new_at name s = is_told New s && bytes_eq s.name name
+-- it has a name in a folder, and no reader took it away
+abbrev pub is_at : Folder → List ℕ → MailFile → Bool
+is_at folder name s = is_told folder s && bytes_eq s.name name
 
--- how many bytes the first file with a name in `new` has, if one has it
-abbrev pub size_in_new : List ℕ → Directories → Option ℕ
-size_in_new name d = option_map (λ s. length s.content) (find (is_new_at name) d.entries)
+-- how many bytes the first file with a name in a folder has, if one has it
+abbrev pub size_at : Folder → List ℕ → Directories → Option ℕ
+size_at folder name d = option_map (λ s. length s.content) (find (is_at folder name) d.entries)
 
 -- one thing, or none
 abbrev pub list_of : {A : Type 0} → Option A → List A

@@ -20,6 +20,6 @@ pub use laws::{files_are_lost, mail_is_lost};
 pub use memory_calls::{CallFuse, MemoryCalls, MemoryMade, MemoryOpened};
 pub use memory_folder::{Left, MemoryFolder};
 pub use memory_folders::{MailLeft, MemoryFolderMaildir, MemoryFolders, ReaderStep};
-pub use memory_shared::MemoryShared;
+pub use memory_shared::{MemoryShared, OpenedMail};
 pub use new_file::MemoryNewFile;
 pub use script_wire::ScriptWire;

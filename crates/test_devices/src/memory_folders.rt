@@ -14,7 +14,7 @@ ghost use Rattle.folder_store.specs.{
   MailFolders.{touches, unopened_in},
   MailPower.{EntriesLeftAs, LosesMail},
 };
-ghost use Rattle.test_devices.specs.{MemoryFolder.made_of, MemoryFolders.{list_of, size_in_new, stored_file}};
+ghost use Rattle.test_devices.specs.{MemoryFolder.made_of, MemoryFolders.{list_of, size_at, stored_file}};
 
 use crate::new_file::MemoryNewFile;
 use folder_store::{FolderMaildir, FoundNames, MailFolders, Sought, readers_move};
@@ -258,7 +258,7 @@ fn name_for(alloc: Global, name: &str, is_new: bool) -> Result<String, AllocErro
 }
 
 impl StoredMail {
-    ghost use Rattle.test_devices.specs.MemoryFolders.{MayBeLeftAs, is_new_at, left_with, stored_file};
+    ghost use Rattle.test_devices.specs.MemoryFolders.{MayBeLeftAs, is_at, left_with, stored_file};
 
     fn is_in(&self, folder: Folder) -> bool
         ensures { result ≡ is_in folder (stored_file self.now) }
@@ -276,11 +276,11 @@ impl StoredMail {
         !self.is_gone && self.is_in(folder)
     }
 
-    // Whether it has a name in `new`, and wasn't taken away.
-    fn is_new_at(&self, name: &str) -> bool
-        ensures { result ≡ is_new_at name.now (stored_file self.now) }
+    // Whether it has a name in a folder, and wasn't taken away.
+    fn is_at(&self, folder: Folder, name: &str) -> bool
+        ensures { result ≡ is_at folder name.now (stored_file self.now) }
     {
-        self.is_told(Folder::New) && self.name.as_str() == name
+        self.is_told(folder) && self.name.as_str() == name
     }
 
     // Whether it is in the folder, or left it since the names there were last flushed.
@@ -571,12 +571,12 @@ impl MemoryFolders {
         self.cur_rests = still_rests(self.cur_rests, !was_new, !was_new);
     }
 
-    // A copy of a name, if nothing in `new` has it.
-    pub(crate) fn free_name(&self, name: &str) -> Result<Option<String>, AllocError>
+    // A copy of a name, if nothing in a folder has it.
+    pub(crate) fn free_name(&self, folder: Folder, name: &str) -> Result<Option<String>, AllocError>
         ensures { IfOk result (λ free. IfSome free (λ copy.
-            (string_bytes copy ≡ name.now) × IsFree name.now self.now)) }
+            (string_bytes copy ≡ name.now) × IsFree folder name.now self.now)) }
     {
-        let names = names_in(self.alloc, &self.files, Folder::New)?;
+        let names = names_in(self.alloc, &self.files, folder)?;
         if is_one_of(&names, name) || is_one_of(&self.obstacles, name) {
             return Ok(None);
         }
@@ -675,19 +675,19 @@ impl MemoryFolders {
         Ok(())
     }
 
-    // How many octets the first file with a name in `new` has, if one has it.
-    pub(crate) fn size_in_new(&self, name: &str) -> Option<u64>
-        ensures { result ≡ size_in_new name.now self.now }
+    // How many octets the first file with a name in a folder has, if one has it.
+    pub(crate) fn size_at(&self, folder: Folder, name: &str) -> Option<u64>
+        ensures { result ≡ size_at folder name.now self.now }
     {
-        match self.files.iter().find(|file| file.is_new_at(name)) {
+        match self.files.iter().find(|file| file.is_at(folder, name)) {
             Some(file) => Some(file.content.as_slice().len() as u64),
             None => None,
         }
     }
 
-    // Whether what can't be opened has a name in `new`.
+    // Whether what can't be opened has a name in a folder: in both, then.
     pub(crate) fn is_obstructed(&self, name: &str) -> bool
-        ensures { result ≡ has_id self.now.closed_new name.now }
+        ensures { (folder : Folder) → result ≡ has_id (closed_in folder self.now) name.now }
     {
         is_one_of(&self.obstacles, name)
     }
@@ -757,7 +757,7 @@ impl MailFolders for MemoryFolders {
 
     fn put(&mut self, file: MemoryNewFile, name: &str) -> Result<(), StoreFault> {
         self.let_reader_move();
-        let Ok(Some(name)) = self.free_name(name) else {
+        let Ok(Some(name)) = self.free_name(Folder::New, name) else {
             return Err(StoreFault::Refused);
         };
         match self.put_now(file, name) {

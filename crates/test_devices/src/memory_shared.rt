@@ -1,18 +1,22 @@
 //! The folders of a Maildir in memory, call by call.
 
-ghost use Rattle.std.specs.Prelude.{◌≡◌, IfErr, IfOk, IfSome, Some, true};
-ghost use Rattle.folder_store.specs.{MailFolders.{Moved, rests_in}, SharedCalls.listed_in};
-ghost use Rattle.test_devices.specs.{MemoryCalls.IsRefusal, MemoryShared.memory_shared};
+ghost use Rattle.std.specs.{IoError.error_kind, Prelude.{◌≡◌, IfErr, IfOk, IfSome, OnOk, Some, false, true}};
+ghost use Rattle.folder_store.specs.{
+  Calls.unknown_opened,
+  MailFolders.{Moved, rests_in},
+  SharedCalls.{was_unopened, listed_in},
+};
+ghost use Rattle.test_devices.specs.{MemoryCalls.IsRefusal, MemoryShared.{MayRefuse, memory_shared}};
 
 use crate::memory_calls::{CallFuse, MemoryMade, refusal, stat_of};
 use crate::memory_folders::MemoryFolders;
 use crate::new_file::MemoryNewFile;
 use folder_store::{
-    ChangeTime, FileKind, FileStat, Lead, ListedNames, SharedCalls, Sought, readers_move,
+    ChangeTime, FileKind, FileStat, ListedNames, OpenHandle, SharedCalls, Sought, readers_move,
 };
 use mail_store::Folder;
 use std::alloc::Global;
-use std::io::ErrorKind;
+use std::io::{self, ErrorKind};
 use std::time::Duration;
 use system_calls::Denial;
 
@@ -34,6 +38,26 @@ pub struct MemoryShared {
     pub fuse: CallFuse,
     /// The same of the calls on each file that is made from now on.
     pub made_fuse: CallFuse,
+}
+
+/// A file of it that was opened, and what fstat(2) tells of it.
+#[derive(Drop)]
+pub struct OpenedMail {
+    alloc: Global,
+    name: String,
+    size: u64,
+}
+
+impl OpenHandle for OpenedMail {
+    ghost use Rattle.folder_store.specs.declared.calls.FileKind.{FileKind};
+
+    ghost opened = { λ _. unknown_opened };
+
+    ghost told = { λ _ stat. stat.kind ≡ FileKind.File };
+
+    fn denied(&self, error: io::Error) -> Denial {
+        Denial::of(self.alloc, self.name.as_str(), error)
+    }
 }
 
 /// A folder's time of change: if it has rested, that of its last listing, else a later one.
@@ -102,6 +126,23 @@ impl MemoryShared {
         self.pass(path)
     }
 
+    /// The size of the file that has a name.
+    fn size_of(&self, folder: Folder, name: &str) -> Result<u64, Denial>
+        ensures ok { OnOk result (was_unopened self.now.folders folder name.now ≡ false) }
+        ensures err { IfErr result (λ d. MayRefuse self.now.folders folder name.now (error_kind d.error)) }
+    {
+        if self.folders.is_odd(folder, name) {
+            return Err(refusal(self.alloc, name, ErrorKind::FilesystemLoop));
+        }
+        if let Some(size) = self.folders.size_at(folder, name) {
+            return Ok(size);
+        }
+        if self.folders.is_obstructed(name) {
+            return Err(refusal(self.alloc, name, ErrorKind::Other));
+        }
+        Err(refusal(self.alloc, name, ErrorKind::NotFound))
+    }
+
     /// A folder's time of change.
     fn change_of(&self, folder: Folder) -> Result<ChangeTime, Denial>
         ensures ok { IfOk result (λ change.
@@ -124,9 +165,15 @@ impl SharedCalls for MemoryShared {
 
     type Made = MemoryMade;
 
+    type File = OpenedMail;
+
     ghost shared = { memory_shared };
 
-    ghost was_free = { λ m name. IsFree name m.folders };
+    ghost was_free = { λ m folder name. IsFree folder name m.folders };
+
+    ghost was_file = { λ _ _ _. Unit {0} };
+
+    ghost was_refused = { λ m. MayRefuse m.folders };
 
     ghost sound = { λ _. Unit {0} };
 
@@ -149,12 +196,42 @@ impl SharedCalls for MemoryShared {
         Ok(ListedNames { names, change })
     }
 
-    fn look_at(&mut self, folder: Folder, name: &str) -> Result<Lead, Denial> {
+    fn stat_name(&mut self, folder: Folder, name: &str) -> Result<FileStat, Denial> {
+        self.begin(name)?;
+        let size = self.size_of(folder, name)?;
+        Ok(stat_of(FileKind::File, size, 0))
+    }
+
+    fn open(&mut self, folder: Folder, name: &str) -> Result<OpenedMail, Denial> {
+        self.begin(name)?;
+        let size = self.size_of(folder, name)?;
+        let name = String::from_str(self.alloc, name)?;
+        Ok(OpenedMail {
+            alloc: self.alloc,
+            name,
+            size,
+        })
+    }
+
+    fn fstat(&self, file: &OpenedMail) -> Result<FileStat, Denial> {
+        Ok(stat_of(FileKind::File, file.size, 0))
+    }
+
+    // The reader leaves what can't be opened where it is.
+    fn lstat(&mut self, folder: Folder, name: &str) -> Result<FileStat, Denial> {
+        let is_obstructed = self.folders.is_obstructed(name);
         self.begin(name)?;
         if self.folders.is_odd(folder, name) {
-            return Ok(Lead::Odd(Vec::new(self.alloc)));
+            return Ok(stat_of(FileKind::Other, 0, 0));
         }
-        Ok(Lead::File)
+        if is_obstructed {
+            return Ok(stat_of(FileKind::Other, 0, 0));
+        }
+        if self.folders.free_name(folder, name)?.is_some() {
+            return Err(refusal(self.alloc, name, ErrorKind::NotFound));
+        }
+        let size = self.folders.size_at(folder, name).unwrap_or(0);
+        Ok(stat_of(FileKind::File, size, 0))
     }
 
     fn flush_files(&mut self, stems: &[String], _may_miss: bool) -> Result<bool, Denial> {
@@ -177,7 +254,7 @@ impl SharedCalls for MemoryShared {
     fn link(&mut self, file: &MemoryMade, name: &str) -> Result<(), Denial> {
         self.begin(name)?;
         let copy = file.copy()?;
-        let Some(title) = self.folders.free_name(name)? else {
+        let Some(title) = self.folders.free_name(Folder::New, name)? else {
             return Err(refusal(self.alloc, name, ErrorKind::AlreadyExists));
         };
         if !self.has_links {
@@ -185,17 +262,6 @@ impl SharedCalls for MemoryShared {
         }
         self.folders.put_now(copy, title)?;
         Ok(())
-    }
-
-    fn lstat(&mut self, name: &str) -> Result<FileStat, Denial> {
-        self.begin(name)?;
-        if self.folders.free_name(name)?.is_some() {
-            return Err(refusal(self.alloc, name, ErrorKind::NotFound));
-        }
-        match self.folders.size_in_new(name) {
-            Some(size) => Ok(stat_of(FileKind::File, size, 0)),
-            None => Ok(stat_of(FileKind::Other, 0, 0)),
-        }
     }
 
     fn rename(&mut self, file: &MemoryMade, name: &str) -> Result<(), Denial> {
@@ -225,7 +291,7 @@ impl SharedCalls for MemoryShared {
         self.folders.is_obstructed(name)
     }
 
-    fn refusal(&self, name: &str, words: &str) -> Denial {
+    fn refusal(&self, _folder: Folder, name: &str, words: &str) -> Denial {
         Denial::because(self.alloc, name, words)
     }
 
