@@ -3,8 +3,7 @@
 ghost use Rattle.std.specs.Prelude.{◌≡◌, ◌≤◌, ◌⊎◌, ◌↔◌, length, IfOk, IsTrue, Ok, OnOk, false, not, true};
 ghost use Rattle.folder_store.specs.{
   CutOff.{BeginsWith, HasAllKept, IsKeptDurable, has_others},
-  PowerLoss.disk_at,
-  Sound.WhereFilesSound,
+  Sound.{WhereFileSound, WhereFilesSound},
 };
 ghost use Rattle.mail_store.specs.DiskCalls.{AppendsDisk, CutsDisk};
 
@@ -220,7 +219,7 @@ pub fn append_noting<F: FileFolder + Drop>(
     appending: Appending,
     cut_off: &mut Option<CutOff<'_, F>>,
 ) -> Result<(), StoreFault>
-    ensures { WhereFilesSound F.sound (λ f. disk_at (F.directory f) name.now) folder.old folder.new
+    ensures { WhereFileSound F.sound F.directory name.now folder.old folder.new
         (λ old new. AppendsDisk old bytes.now result new) }
 {
     let answer = append_in(folder, name, bytes, appending);
@@ -238,7 +237,7 @@ pub fn cut_keeping<F: FileFolder + Drop>(
     len: u64,
     cut_off: &mut Option<CutOff<'_, F>>,
 ) -> Result<(), StoreFault>
-    ensures { WhereFilesSound F.sound (λ f. disk_at (F.directory f) name.now) folder.old folder.new
+    ensures { WhereFileSound F.sound F.directory name.now folder.old folder.new
         (λ old new. CutsDisk old len result new) }
 {
     if let Some(cut_off) = cut_off {

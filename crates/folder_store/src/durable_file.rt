@@ -1,7 +1,7 @@
 //! What the devices do to a folder in several calls.
 
 ghost use Rattle.std.specs.Prelude.{◌≡◌, ◌-◌, ◌%◌, ◌++◌, true, OnOk};
-ghost use Rattle.folder_store.specs.{PowerLoss.disk_at, Sound.WhereFilesSound};
+ghost use Rattle.folder_store.specs.Sound.{WhereFileSound, WhereFilesSound};
 ghost use Rattle.mail_store.specs.DiskCalls.{AppendsDisk, CutsDisk, FlushesBoth, ReplacesDisk};
 
 use crate::file_folder::{FileFolder, NewFile};
@@ -22,7 +22,7 @@ pub enum Appending {
 
 /// Appends bytes to a file, and flushes them.
 fn append_flushed<F: FileFolder>(folder: &mut F, name: &str, bytes: &[u8]) -> Result<(), StoreFault>
-    ensures { WhereFilesSound F.sound (λ f. disk_at (F.directory f) name.now) folder.old folder.new
+    ensures { WhereFileSound F.sound F.directory name.now folder.old folder.new
         (λ old new. AppendsDisk old bytes.now result new) }
 {
     folder.append(name, bytes)?;
@@ -38,7 +38,7 @@ fn room_after(size: u64) -> usize
 
 /// The same, but flushes at each border of 512 octets of the file before it writes more.
 fn append_blocks<F: FileFolder>(folder: &mut F, name: &str, bytes: &[u8]) -> Result<(), StoreFault>
-    ensures { WhereFilesSound F.sound (λ f. disk_at (F.directory f) name.now) folder.old folder.new
+    ensures { WhereFileSound F.sound F.directory name.now folder.old folder.new
         (λ old new. AppendsDisk old bytes.now result new) }
 {
     let size = folder.size(name)?;
@@ -59,7 +59,7 @@ pub fn append_in<F: FileFolder>(
     bytes: &[u8],
     appending: Appending,
 ) -> Result<(), StoreFault>
-    ensures { WhereFilesSound F.sound (λ f. disk_at (F.directory f) name.now) folder.old folder.new
+    ensures { WhereFileSound F.sound F.directory name.now folder.old folder.new
         (λ old new. AppendsDisk old bytes.now result new) }
 {
     match appending {
@@ -70,7 +70,7 @@ pub fn append_in<F: FileFolder>(
 
 /// Cuts a file to its first bytes, and flushes it.
 pub fn cut_flushed<F: FileFolder>(folder: &mut F, name: &str, len: u64) -> Result<(), StoreFault>
-    ensures { WhereFilesSound F.sound (λ f. disk_at (F.directory f) name.now) folder.old folder.new
+    ensures { WhereFileSound F.sound F.directory name.now folder.old folder.new
         (λ old new. CutsDisk old len result new) }
 {
     folder.cut_to(name, len)?;
@@ -93,7 +93,7 @@ pub fn replace_flushed<F: FileFolder>(
     name: &str,
     bytes: &[u8],
 ) -> Result<bool, StoreFault>
-    ensures { WhereFilesSound F.sound (λ f. disk_at (F.directory f) name.now) folder.old folder.new
+    ensures { WhereFileSound F.sound F.directory name.now folder.old folder.new
         (λ old new. ReplacesDisk old bytes.now result new) }
 {
     let mut file = folder.make(name)?;
@@ -107,7 +107,7 @@ pub fn replace_flushed<F: FileFolder>(
 
 /// Flushes a file and the names. False if the file system flushes no folders.
 pub fn flush_both<F: FileFolder>(folder: &mut F, name: &str) -> Result<bool, StoreFault>
-    ensures { WhereFilesSound F.sound (λ f. disk_at (F.directory f) name.now) folder.old folder.new
+    ensures { WhereFileSound F.sound F.directory name.now folder.old folder.new
         (λ old new. FlushesBoth old result new) }
 {
     folder.flush(name)?;
