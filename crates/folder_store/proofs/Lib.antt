@@ -11,3 +11,4 @@ pub mod Reading
 pub mod Changing
 pub mod Folder
 mod Watching
+mod Keeping

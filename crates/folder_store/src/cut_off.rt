@@ -1,8 +1,10 @@
 //! What is cut off from a file, kept in a file of its own.
 
-ghost use Rattle.std.specs.Prelude.{◌≡◌, ◌≤◌, ◌⊎◌, ◌↔◌, length, IfOk, IsTrue, Ok, OnOk, false, not, true};
+ghost use Rattle.std.specs.Prelude.{◌≡◌, ◌<◌, ◌≤◌, ◌⊎◌, ◌-◌, ◌↔◌, ◌||◌, IsTrue, Ok, OnOk, false, true};
+ghost use Rattle.std.specs.Prelude.{is_ok, length, not, take};
 ghost use Rattle.folder_store.specs.{
-  CutOff.{BeginsWith, HasAllKept, IsKeptDurable, has_others},
+  CutOff.{BeginsWith, Copies, HasAllKept, IsKeptDurable, KeepsText, KeepsCut, KeepsFirst, MakesMissing, TellsHad},
+  CutOff.{WhereKeptSound, bytes_from, has_others},
   Sound.{WhereFileSound, WhereFilesSound},
 };
 ghost use Rattle.mail_store.specs.DiskCalls.{AppendsDisk, CutsDisk};
@@ -28,6 +30,13 @@ fn begins_with(entry: &[u8], kept: &[u8]) -> bool
         }
     }
     true
+}
+
+/// Whether a piece is there, and bytes begin with it.
+fn is_front(piece: &[u8], bytes: &[u8]) -> bool
+    ensures { IsTrue result ↔ (0 < length piece.now) × (piece.now ≡ take (length piece.now) bytes.now) }
+{
+    !piece.is_empty() && bytes.starts_with(piece)
 }
 
 /// Whether it is known that an entry has all that is kept. It isn't if they couldn't be compared.
@@ -95,7 +104,8 @@ impl<'a, F> CutOff<'a, F> {
 impl<'a, F: FileFolder + Drop> CutOff<'a, F> {
     // The size of the file, which is made unless it is there.
     fn make(&mut self) -> Result<u64, StoreFault>
-        ensures { self.new ≡ record self.old { folder = self.new.folder } }
+        ensures same { self.new ≡ record self.old { folder = self.new.folder } }
+        ensures makes { WhereKeptSound F.sound F.directory self.old self.new (λ old new. MakesMissing old result new) }
     {
         match self.folder.edges(self.name) {
             Ok(edges) => Ok(edges.size),
@@ -118,6 +128,8 @@ impl<'a, F: FileFolder + Drop> CutOff<'a, F> {
     ) -> Result<u64, StoreFault>
         ensures same { self.new ≡ record self.old { folder = self.new.folder } }
         ensures reads { WhereFilesSound F.sound F.directory other.old other.new (λ old new. new ≡ old) }
+        ensures tells { F.sound other.new → WhereKeptSound F.sound F.directory self.old self.new (λ old new.
+            TellsHad (end - start) (bytes_from (F.directory other.old) name.now start) old result new) }
     {
         let size = self.make()?;
         let shared = size.min(end.saturating_sub(start));
@@ -125,10 +137,10 @@ impl<'a, F: FileFolder + Drop> CutOff<'a, F> {
         let mut ours = [0u8; PIECE];
         let mut done = 0u64;
         while done < shared {
-            let place = size.saturating_sub(shared).saturating_add(done);
+            let place = size - shared + done;
             let count = self.folder.read_at(self.name, place, &mut ours)?;
-            let in_other = other.read_at(name, start.saturating_add(done), &mut theirs)?;
-            if count == 0 || count > in_other || ours[..count] != theirs[..count] {
+            let in_other = other.read_at(name, start + done, &mut theirs)?;
+            if !is_front(&ours[..count], &theirs[..in_other]) {
                 return Ok(0);
             }
             done = done.saturating_add(count as u64);
@@ -136,17 +148,18 @@ impl<'a, F: FileFolder + Drop> CutOff<'a, F> {
         Ok(shared)
     }
 
-    // Appends the bytes of another file from one place to another, and says where it came to. Refused if the other file
-    // ends before: then another program has cut it.
-    fn copy(&mut self, other: &mut F, name: &str, from: u64, end: u64) -> Result<u64, StoreFault>
-        ensures whole { IfOk result (λ at. end ≤ at) }
+    // Appends the bytes of another file from one place to another. Refused if the other file ends before: then another
+    // program has cut it.
+    fn copy(&mut self, other: &mut F, name: &str, from: u64, end: u64) -> Result<(), StoreFault>
         ensures same { self.new ≡ record self.old { folder = self.new.folder } }
         ensures reads { WhereFilesSound F.sound F.directory other.old other.new (λ old new. new ≡ old) }
+        ensures copies { F.sound other.new → WhereKeptSound F.sound F.directory self.old self.new (λ old new.
+            Copies (end - from) (bytes_from (F.directory other.old) name.now from) old result new) }
     {
         let mut at = from;
         let mut buf = [0u8; PIECE];
         while at < end {
-            let count = other.read_at(name, at, &mut buf)?;
+            let count = other.read_at(name, at, &mut buf)?.min((end - at) as usize);
             if count == 0 {
                 return Err(StoreFault::Refused);
             }
@@ -156,19 +169,25 @@ impl<'a, F: FileFolder + Drop> CutOff<'a, F> {
                 &buf[..count],
                 Appending::AtOnce,
             )?;
-            at = at.saturating_add(count as u64);
+            at += count as u64;
         }
-        Ok(at)
+        Ok(())
     }
 
     // Keeps the bytes of another file from `start` on, and flushes them, also those that a killed run had kept. The
     // other file is only read. From the start on it isn't known that what is kept is ours, also if it is refused.
     #[tactic(auto, using(mail_store::proofs::DiskLemmas::flushed_settled))]
     fn keep(&mut self, other: &mut F, name: &str, start: u64) -> Result<(), StoreFault>
-        ensures keeps { OnOk result (has_others self.new ≡ true) }
-        ensures unknown { self.new.are_ours ≡ false }
+        ensures state { self.new ≡ record self.old {
+          folder = self.new.folder;
+          may_be_there = true;
+          are_ours = false;
+          has_kept = is_ok result || self.old.has_kept;
+        } }
         ensures durable { OnOk result (IsKeptDurable F.sound F.directory self.new) }
         ensures reads { WhereFilesSound F.sound F.directory other.old other.new (λ old new. new ≡ old) }
+        ensures keeps { F.sound other.new → WhereKeptSound F.sound F.directory self.old self.new (λ old new.
+            KeepsText (bytes_from (F.directory other.old) name.now start) old result new) }
     {
         self.may_be_there = true;
         self.are_ours = false;
@@ -178,6 +197,16 @@ impl<'a, F: FileFolder + Drop> CutOff<'a, F> {
         flush_both(&mut self.folder, self.name)?;
         self.has_kept = true;
         Ok(())
+    }
+
+    // Cuts another file to its first bytes, and flushes it. What is cut off is kept first.
+    fn cut(&mut self, other: &mut F, name: &str, len: u64) -> Result<(), StoreFault>
+        ensures cuts { WhereFileSound F.sound F.directory name.now other.old other.new
+            (λ old new. CutsDisk old len result new) }
+        ensures keeps { KeepsCut F.sound F.directory name.now len other.old other.new result self.old self.new }
+    {
+        self.keep(other, name, len)?;
+        cut_flushed(other, name, len)
     }
 
     // Whether an entry begins with all that is kept.
@@ -237,13 +266,13 @@ pub fn cut_keeping<F: FileFolder + Drop>(
     len: u64,
     cut_off: &mut Option<CutOff<'_, F>>,
 ) -> Result<(), StoreFault>
-    ensures { WhereFileSound F.sound F.directory name.now folder.old folder.new
+    ensures cuts { WhereFileSound F.sound F.directory name.now folder.old folder.new
         (λ old new. CutsDisk old len result new) }
+    ensures keeps { KeepsFirst (KeepsCut F.sound F.directory name.now len folder.old folder.new result)
+        cut_off.old cut_off.new }
 {
-    if let Some(cut_off) = cut_off {
-        if !cut_off.is_refused {
-            cut_off.keep(folder, name, len)?;
-        }
+    match cut_off {
+        Some(cut_off) if !cut_off.is_refused => cut_off.cut(folder, name, len),
+        _ => cut_flushed(folder, name, len),
     }
-    cut_flushed(folder, name, len)
 }
