@@ -1,4 +1,6 @@
 mod EndlessLemmas
+mod LeftFiles
+mod LeftLemmas
 mod Losses
 mod MemoryFiles
 mod MemoryMail

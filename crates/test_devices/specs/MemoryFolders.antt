@@ -7,6 +7,9 @@ use Rattle.std.specs.{
 use Rattle.mail_store.specs.declared.maildir.disk.Folder.{Folder}
 use Rattle.test_devices.specs.declared.memory_folders.StoredMail.{StoredMail}
 use Rattle.folder_store.specs.{MailFolders.{Directories, MailFile, is_told}, MailPower.IsMailLeftAs}
+use Rattle.folder_store.specs.{MailFolders.is_left, MailPower.{EntriesLeftAs, LosesMail}}
+use Rattle.std.specs.List.{filter}
+use Rattle.test_devices.specs.declared.memory_folders.FoundMail.{FoundMail}
 
 -- a file
 abbrev pub stored_file : StoredMail → MailFile
@@ -49,3 +52,24 @@ left_with is_new content s = record s {
 abbrev pub MayBeLeftAs : MailFile → Option MailFile → Type 0
 MayBeLeftAs s None = s.is_named ≡ false
 MayBeLeftAs s (Some t) = IsMailLeftAs s t
+
+-- a file that is found after a loss of power
+abbrev pub found_file : FoundMail → MailFile
+found_file k = record {
+  is_new = k.is_new;
+  name = string_bytes k.name;
+  content = k.content.items;
+  is_flushed = true;
+  is_named = true;
+  left_new = false;
+  left_cur = false;
+  is_gone = false;
+}
+
+-- after a loss of power these files of some are found, in this order, and no others
+abbrev pub MayBeFound : List MailFile → List MailFile → Type 0
+MayBeFound entries found = (left : List MailFile) × EntriesLeftAs entries left × (filter is_left left ≡ found)
+
+-- the same of the folders
+abbrev pub MayFind : Directories → List MailFile → Type 0
+MayFind old found = (new : Directories) × LosesMail old new × (filter is_left new.entries ≡ found)

@@ -1,10 +1,11 @@
 //! A file system in memory, call by call.
 
 ghost use Rattle.std.specs.{
-  Prelude.{◌≡◌, ◌<◌, ◌+◌, None, IfErr, IfNone, IfOk, IfSome, OnErr, OnOk, length},
+  Prelude.{◌≡◌, ◌<◌, ◌+◌, ◌↔◌, None, IfErr, IfNone, IfOk, IfSome, IsTrue, OnErr, OnOk, length},
+  Prelude.option_map,
   IoError.error_kind,
 };
-ghost use Rattle.folder_store.specs.{Calls.Stats, PowerLoss.Loses};
+ghost use Rattle.folder_store.specs.{Calls.Stats, PowerLoss.{Loses, MayBe}};
 ghost use Rattle.test_devices.specs.MemoryCalls.{HasSize, IsBare, IsRefusal, IsRefusalKind, memory_opened, memory_tree};
 
 use crate::memory_folder::{Left, MemoryFolder};
@@ -247,6 +248,14 @@ impl MemoryCalls {
         self.files.lose_power(choices)?;
         self.replaced.clear();
         Ok(())
+    }
+
+    /// Whether a loss of power may leave a file with these octets at a path, or none.
+    pub fn may_leave(&self, path: &str, left: Option<&[u8]>) -> bool
+        ensures { IsTrue result
+            ↔ MayBe (memory_tree self.now).directory path.now (option_map (λ octets. octets.now) left.entry) }
+    {
+        self.files.may_leave(path, left)
     }
 
     /// How many octets the file at a path has, if there is one.

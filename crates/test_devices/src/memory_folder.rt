@@ -1,18 +1,21 @@
 //! A folder in memory.
 
-ghost use Rattle.std.specs.Prelude.{◌≡◌, ◌≢◌, ◌<◌, ◌≤◌, ◌++◌, ℕ, [], ◌∷◌, length, map, slice_index_or, string_bytes};
-ghost use Rattle.std.specs.Prelude.{HoldsAt, IfErr, IfNone, IfOk, IfSome, IsOk, OnErr, OnOk, option_map, take, true};
-ghost use Rattle.mail_store.specs.{Fault.IsDeviceFault, DiskCalls.{appended, cut, flushed}, Durable.{IsLeft, secured}};
+ghost use Rattle.std.specs.Prelude.{◌≡◌, ◌≢◌, ◌<◌, ◌≤◌, ◌↔◌, ◌++◌, ℕ, [], ◌∷◌, length, map, slice_index_or};
+ghost use Rattle.std.specs.Prelude.{HoldsAt, IfErr, IfNone, IfOk, IfSome, IsOk, IsTrue, OnErr, OnOk, option_map, take};
+ghost use Rattle.std.specs.Prelude.{string_bytes, true};
+ghost use Rattle.mail_store.specs.{Fault.IsDeviceFault, DiskCalls.{appended, cut, flushed}};
+ghost use Rattle.mail_store.specs.Durable.{IsLeft, IsLeftOf, secured};
 ghost use Rattle.std.specs.Option.{is_some};
 ghost use Rattle.folder_store.specs.{
   Under.{after, outside},
   FileFolder.{Makes, find, placed, put_in, with_blob, FlushesNames, MeasuresFile, ReadsPiece, TellsFileSize},
-  PowerLoss.{Loses, left_under},
+  PowerLoss.{Loses, MayBe, WasOnce, left_under},
 };
 ghost use Rattle.test_devices.specs.MemoryFolder.{MayBeOf, Survive, blob_of, folder_entries, folder_entry, made_of};
 ghost use Rattle.test_devices.specs.MemoryFolder.{older_of};
 
 use crate::new_file::MemoryNewFile;
+use crate::torn::is_torn;
 use folder_store::{FileFolder, FolderState};
 use mail_store::{Edges, StoreFault, edges_of, read_piece};
 use std::alloc::{AllocError, Global};
@@ -184,6 +187,32 @@ fn survivors(
     Ok(left)
 }
 
+/// Whether a loss of power may leave these octets of a file, or no file if there was none.
+fn may_leave_of(file: Option<&MemoryBlob>, left: Option<&[u8]>) -> bool
+    ensures { IsTrue result
+        ↔ IsLeftOf (option_map (λ k. blob_of k.now) file.entry) (option_map (λ octets. octets.now) left.entry) }
+{
+    match (file, left) {
+        (Some(file), Some(left)) => file.may_leave(left),
+        (None, None) => true,
+        _ => false,
+    }
+}
+
+/// The same of what a name led to, before one of these changes.
+fn may_leave_older(older: &[(String, Option<MemoryBlob>)], name: &str, left: Option<&[u8]>) -> bool
+    ensures { IsTrue result
+        ↔ WasOnce (map older_of older.now) name.now (option_map (λ octets. octets.now) left.entry) }
+{
+    match older {
+        [] => false,
+        [link, rest @ ..] => {
+            (link.0.as_str() == name && may_leave_of(link.1.as_ref(), left))
+                || may_leave_older(rest, name, left)
+        }
+    }
+}
+
 impl MemoryBlob {
     ghost use Rattle.folder_store.specs.FileFolder.{blob_made};
     ghost use Rattle.test_devices.specs.MemoryFolder.{IsZeroed, blob_of, made_of};
@@ -243,6 +272,15 @@ impl MemoryBlob {
             Left::Zeros(len) if len >= self.uncut => self.zeroed(len),
             _ => self.content.clone(),
         }
+    }
+
+    // Whether a loss of power may leave these octets of the file.
+    fn may_leave(&self, left: &[u8]) -> bool
+        ensures { IsTrue result ↔ IsLeft (blob_of self.now) left.now }
+    {
+        left == self.flushed.as_slice()
+            || left == self.content.as_slice()
+            || is_torn(&self.content, &self.flushed, self.uncut, left)
     }
 
     fn copy(&self) -> Result<MemoryBlob, AllocError>
@@ -306,6 +344,13 @@ impl MemoryFolder {
             }
             Err(_) => Err(StoreFault::Refused),
         }
+    }
+
+    /// Whether a loss of power may leave a file with these octets under a name, or none.
+    pub fn may_leave(&self, name: &str, left: Option<&[u8]>) -> bool
+        ensures { IsTrue result ↔ MayBe self.now name.now (option_map (λ octets. octets.now) left.entry) }
+    {
+        may_leave_of(stored_at(&self.files, name), left) || may_leave_older(&self.older, name, left)
     }
 
     /// Flushes the names that begin with a text.

@@ -1,7 +1,8 @@
 //! The folders of a Maildir in memory.
 
+ghost use Rattle.test_devices.specs.MemoryFolders.{MayBeFound, MayFind, found_file};
 ghost use Rattle.std.specs.{
-  Prelude.{◌≡◌, ◌↔◌, ◌≤◌, ◌||◌, ◌++◌, [], ◌∷◌, Contains, HoldsAt, IfNone, IfOk, IfSome, IsTrue, Ok, OnErr},
+  Prelude.{◌≡◌, ◌⊎◌, ◌↔◌, ◌≤◌, ◌||◌, ◌++◌, [], ◌∷◌, Contains, HoldsAt, IfNone, IfOk, IfSome, IsTrue, Ok, OnErr},
   Prelude.{OnOk, false, if◌then◌else◌, length, true, map, option_map, string_bytes},
   List.filter,
 };
@@ -12,7 +13,7 @@ ghost use Rattle.folder_store.specs.{
   MailCalls.{names_sought, names_told, odd_names, put_as, without_taken},
   MailFolders.{Moved, MovesFile, closed_in, entries_in, is_in, is_taken, is_told, name_at, odd_names_in, rests_in},
   MailFolders.{touches, unopened_in},
-  MailPower.{EntriesLeftAs, LosesMail},
+  MailPower.{EntriesLeftAs, IsMailLeftAs, LosesMail},
 };
 ghost use Rattle.test_devices.specs.{MemoryFolder.made_of, MemoryFolders.{list_of, size_at, stored_file}};
 
@@ -60,6 +61,14 @@ pub enum MailLeft {
     Gone,
     /// Its first octets, as many as this number, unless it was flushed.
     Front(usize),
+}
+
+/// A file that is found after a loss of power.
+#[derive(Drop)]
+pub struct FoundMail {
+    pub is_new: bool,
+    pub name: String,
+    pub content: Vec<u8>,
 }
 
 /// The folders of a Maildir in memory, and a reader that moves files, or takes them away, before each call. A call is
@@ -213,6 +222,24 @@ fn add_left(left: &mut Vec<StoredMail>, file: Option<StoredMail>) -> Result<(), 
             Ok(())
         }
         None => Ok(()),
+    }
+}
+
+/// Whether after a loss of power these files of some may be found, in this order, and no others.
+fn may_be_found(files: &[StoredMail], there: &[FoundMail]) -> bool
+    ensures { IsTrue result ↔ MayBeFound (map stored_file files.now) (map found_file there.now) }
+{
+    match files {
+        [] => there.is_empty(),
+        [file, rest @ ..] => {
+            if file.may_go() && may_be_found(rest, there) {
+                return true;
+            }
+            match there {
+                [] => false,
+                [first, others @ ..] => file.may_be(first) && may_be_found(rest, others),
+            }
+        }
     }
 }
 
@@ -390,6 +417,27 @@ impl StoredMail {
         }
     }
 
+    // Whether a loss of power may leave nothing of it to be found.
+    fn may_go(&self) -> bool
+        ensures { IsTrue result ↔ (self.now.is_named ≡ false) ⊎ (self.now.is_gone ≡ true) }
+    {
+        !self.is_named || self.is_gone
+    }
+
+    // Whether a loss of power may leave it as this.
+    fn may_be(&self, found: &FoundMail) -> bool
+        ensures { IsTrue result ↔ IsMailLeftAs (stored_file self.now) (found_file found.now) }
+    {
+        let folder = if found.is_new {
+            Folder::New
+        } else {
+            Folder::Cur
+        };
+        base(self.name.as_str()) == base(found.name.as_str())
+            && self.touches(folder)
+            && (!self.is_flushed || self.content.as_slice() == found.content.as_slice())
+    }
+
     // What is left of the file, as the choice says.
     fn left(&self, choice: MailLeft) -> Result<Option<StoredMail>, AllocError>
         ensures { IfOk result (λ left. MayBeLeftAs (stored_file self.now) (option_map stored_file left)) }
@@ -464,6 +512,13 @@ impl MemoryFolders {
             }
             Err(_) => Err(StoreFault::Refused),
         }
+    }
+
+    /// Whether after a loss of power these files may be found, in this order, and no others.
+    pub fn may_leave(&self, there: &[FoundMail]) -> bool
+        ensures { IsTrue result ↔ MayFind self.now (map found_file there.now) }
+    {
+        may_be_found(&self.files, there)
     }
 
     /// Puts what can't be opened into both folders, under this name.
