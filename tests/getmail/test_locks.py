@@ -169,6 +169,20 @@ class Files(Locks):
                 self.assertFalse((self.account.home / "none").exists())
                 lock.rmdir() if name == "a folder" else lock.unlink()
 
+    def test_what_is_put_there_after_the_look(self):
+        """No pipe is waited for, and a file that a link leads to keeps its octets."""
+        lock, put, elsewhere = self.account.lock, self.account.home / "put", self.account.home / "elsewhere"
+        elsewhere.write_bytes(b"octets")
+        with preload.library("meddle") as library:
+            meddling = {"LD_PRELOAD": str(library), "MEDDLE_FROM": str(put), "MEDDLE_TO": str(lock), "MEDDLE_AT": str(lock)}
+            for name, make in (("a pipe", lambda: os.mkfifo(put)), ("a link", lambda: put.symlink_to(elsewhere))):
+                with self.subTest(name):
+                    make()
+                    self.assertEqual(self.account.run("-q", "--why", **meddling), programs.SILENT)
+                    self.assertFalse(stat.S_ISREG(lock.lstat().st_mode))
+                    lock.unlink()
+        self.assertEqual((self.account.held(), elsewhere.read_bytes()), (SOME, b"octets"))
+
     def test_what_is_in_it_stays(self):
         self.account.lock.write_bytes(b"octets")
         self.assertEqual(self.account.run("-q", "--why"), programs.SILENT)

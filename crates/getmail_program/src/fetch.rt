@@ -1,5 +1,5 @@
 //! A run: its setup, the lock, the connection, and one session.
-ghost use Rattle.std.specs.Prelude.{◌≡◌, ◌≤◌, ◌&&◌, ℕ, List, Option, IfErr, IfOk, IfSome, not, true, unwrap_or};
+ghost use Rattle.std.specs.Prelude.{◌≡◌, ◌≤◌, ◌&&◌, ℕ, List, Option, IfErr, IfOk, IfSome, not, true};
 ghost use Rattle.rc_file.specs.Settings.{IsValid};
 ghost use Rattle.getmail_setup.specs.{Failures.status_of, Lock.goes_on, Places.IsSetUp};
 ghost use Rattle.system_calls.specs.declared.system.System.{System};
@@ -101,16 +101,11 @@ where
     fetch_at(devices, errand, link, devices.time(), &mut out, errors)
 }
 
-/// Whether a run leaves the account to another one that has the lock since this second, if that is known, and says
+/// Whether a run leaves the account to another one that has the lock since this second, or 0 if it isn't known, and says
 /// nothing of it. Only an unattended one does.
-fn leaves_to_other<P: Past>(
-    past: &P,
-    words: &Words,
-    held: Option<u64>,
-    journal: Option<&Journal>,
-) -> bool
+fn leaves_to_other<P: Past>(past: &P, words: &Words, held: u64, journal: Option<&Journal>) -> bool
     ensures asked { result ≡ true → (words.now.unattended && not words.now.pretend) ≡ true }
-    ensures leaves { LeavesToOther (P.gave past.now) (P.showed past.now) (unwrap_or held 0)
+    ensures leaves { LeavesToOther (P.gave past.now) (P.showed past.now) held
         (words.now.unattended && not words.now.pretend) result }
 {
     if !is_unattended(words) {
@@ -196,8 +191,7 @@ where
 {
     let rt = machine.rt;
     let alloc = rt.alloc();
-    let reasons = errors.reasons;
-    let files = System::new(rt, &reasons.before);
+    let files = System::new(rt, &errors.reasons.before);
     let Ok(home) = home(rt) else {
         return Err(fail(alloc, Failure::NoMemory, None, errors));
     };
@@ -213,10 +207,10 @@ where
         Err(failure) => return Err(fail(alloc, failure, None, errors)),
     };
     note_names(alloc, &setup, &prepared, errors);
-    let lock = take_lock(alloc, &SystemLocks { rt, reasons }, &setup, errors);
-    if let Lock::Elsewhere = &lock {
+    let lock = take_lock(alloc, &SystemLocks { system: &files }, &setup, errors);
+    if let Lock::Elsewhere(since) = &lock {
         let past = HostPast::new(rt, machine.process, words);
-        if leaves_to_other(&past, words, reasons.held_since.get(), errors.journal) {
+        if leaves_to_other(&past, words, *since, errors.journal) {
             return Err(0);
         }
         return Err(fail(alloc, Failure::AtWork, Some(&setup.settings), errors));

@@ -1,6 +1,6 @@
 //! What unattended runs told before: the file that keeps it, and the clock by which it is told again.
 ghost use Rattle.std.specs.{
-  Prelude.{◌≡◌, ◌≢◌, ℕ, Bool, true, List, Option, Some, Result, Ok, IfErr, IfOk, IfSome, IsErr, MatchOption, unwrap_or},
+  Prelude.{◌≡◌, ◌≢◌, ℕ, Bool, true, List, Option, Some, Result, Ok, IfErr, IfOk, IfSome, IsErr, MatchOption},
   IoError.error_kind,
   String.string_bytes,
   declared.{alloc.AllocError.AllocError, time.SystemTime.SystemTime},
@@ -79,11 +79,10 @@ fn is_void(mark: u64, now: u64) -> bool
 
 /// Nothing is said of another run for the first hour since it took the lock at a mark. If that mark isn't known or is
 /// still to come, the hour begins at the first run that met it.
-pub fn patience<P: Past>(past: &P, held: Option<u64>) -> Waiting
-    ensures { HasPatience (P.gave past.now) (P.showed past.now) (unwrap_or held 0) result }
+pub fn patience<P: Past>(past: &P, held: u64) -> Waiting
+    ensures { HasPatience (P.gave past.now) (P.showed past.now) held result }
 {
     let now = second_of(past.time());
-    let held = held.unwrap_or(0);
     let has_met = is_void(held, now);
     let met = met_since(past, has_met);
     Waiting {

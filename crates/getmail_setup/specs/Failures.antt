@@ -1,8 +1,10 @@
 -- The lines and the exit statuses of runs that end before their session.
 use Rattle.std.specs.{
-  Prelude.{◌≡◌, ◌⊎◌, ℕ, Bool, true, false, List, [], ◌++◌, Option, None, Some, codes, if◌then◌else◌},
+  Prelude.{◌≡◌, ◌⊎◌, ℕ, Bool, true, false, List, [], ◌++◌, Option, None, Some, IsSomeAnd, codes, if◌then◌else◌},
+  String.string_bytes,
 }
 use Rattle.rc_file.specs.{RcText.rc_text, declared.{fault.RcFault.RcFault, settings.Settings.Settings}}
+use Rattle.system_calls.specs.{Line.IsRefusalText, declared.refusal.Denial.{Denial}}
 use Rattle.getmail_setup.specs.{
   Output.Puts,
   Places.{account_name, is_local, peer_name},
@@ -54,11 +56,16 @@ account_front (Some settings) = account_name settings ++ codes ": "
 abbrev pub cause_line : Option Settings → List ℕ → List ℕ → List ℕ
 cause_line account words reason = codes "getmail: " ++ (account_front account ++ (words ++ (reason ++ codes "\n")))
 
--- what is said of a run that goes on without a lock: a line with a reason, if reasons are asked for
-abbrev pub IsToldUnlocked : Bool → Settings → List ℕ → Type 0
-IsToldUnlocked false settings text = text ≡ []
-IsToldUnlocked true settings text =
-    (reason : List ℕ) × (text ≡ cause_line (Some settings) (codes "no lock: ") reason)
+-- why there is no lock: what was refused, and a reason; or, without memory for that, that it ran out
+abbrev pub IsUnlockedReason : Denial → List ℕ → Type 0
+IsUnlockedReason denial reason = (reason ≡ codes "out of memory")
+    ⊎ IsSomeAnd denial.path (λ path. IsRefusalText (string_bytes path) reason)
+
+-- what is said of a run that goes on without a lock: a line with that, if reasons are asked for
+abbrev pub IsToldUnlocked : Bool → Settings → Denial → List ℕ → Type 0
+IsToldUnlocked false settings denial text = text ≡ []
+IsToldUnlocked true settings denial text = (reason : List ℕ) × IsUnlockedReason denial reason
+    × (text ≡ cause_line (Some settings) (codes "no lock: ") reason)
 
 -- the warning of a connection that leaves this machine, if reasons are asked for
 abbrev pub network_warning : Bool → Settings → List ℕ

@@ -7,6 +7,7 @@ pub mod InPlace
 pub mod Journal
 pub mod Listed
 pub mod Lock
+pub mod LockPlace
 pub mod NoSetup
 pub mod Output
 pub mod Places

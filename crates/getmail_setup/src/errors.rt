@@ -1,5 +1,6 @@
 //! What a run writes to standard error before its session, and what it keeps of refused calls.
-ghost use Rattle.std.specs.Prelude.{◌≡◌, ◌≤◌, ℕ, List, option_map};
+ghost use Rattle.std.specs.Prelude.{◌≡◌, ◌≤◌, ℕ, IfSome, IsSomeAnd, List, option_map, string_bytes};
+ghost use Rattle.system_calls.specs.Line.{IsRefusalText};
 ghost use Rattle.getmail_setup.specs.{
   Failures.{IsToldCause, IsToldUnlocked, TellsFailure, account_front, cause_line, network_warning, start_hint},
   Failures.status_of,
@@ -15,7 +16,7 @@ use fetch_rules::Settings;
 use std::alloc::Global;
 use std::cell::Cell;
 use std::io::{Stderr, Write};
-use system_calls::Refusals;
+use system_calls::{Denial, Refusals};
 use trace::Talk;
 
 /// What is kept of refusals while a program runs, to tell the reason of a fault: a device's, the link's or
@@ -30,8 +31,6 @@ pub struct Reasons {
     pub talk: Talk,
     /// The rule that the rc file or the flags break.
     pub rule: Cell<Option<Vec<u8>>>,
-    /// The second since 1970 at which the run that has the lock took it.
-    pub held_since: Cell<Option<u64>>,
 }
 
 impl Reasons {
@@ -47,7 +46,6 @@ impl Reasons {
             link: Refusals::new(alloc, trace),
             talk: Talk::new(alloc),
             rule: Cell::new(None),
-            held_since: Cell::new(None),
         }
     }
 }
@@ -183,26 +181,34 @@ pub fn tell_reason<E: Write>(
     err.put(b"\n");
 }
 
-/// Writes why a run goes on without a lock, if reasons are to be written. Where nothing was noted, memory ran out.
+/// What is told of a refusal, if there is memory for it.
+fn refusal_of(alloc: Global, denial: Denial) -> Option<Vec<u8>>
+    ensures { IfSome result (λ text.
+        IsSomeAnd denial.path (λ path. IsRefusalText (string_bytes path) text.items)) }
+{
+    denial.into_refusal()?.text(alloc).ok()
+}
+
+/// Writes why a run goes on without a lock, if reasons are to be written.
 pub(crate) fn tell_unlocked<E: Write>(
     alloc: Global,
     settings: &Settings,
+    denial: Denial,
     errors: &mut Errors<'_, E>,
 )
-    ensures { (text : List ℕ) × IsToldUnlocked errors.old.says_why settings.now text
+    ensures { (text : List ℕ) × IsToldUnlocked errors.old.says_why settings.now denial text
         × Puts E.contents errors.old.err text errors.new.err }
 {
-    let noted = refused_before(alloc, errors.reasons);
-    let reason = match &noted {
-        Some(reason) => reason.as_slice(),
+    if !errors.says_why {
+        return errors.err.put(b"");
+    }
+    let text = refusal_of(alloc, denial);
+    let reason = match &text {
+        Some(text) => text.as_slice(),
         None => b"out of memory",
     };
-    if errors.says_why {
-        tell_reason(Some(settings), "no lock: ", reason, &mut errors.err);
-        errors.close(Subject::Notice);
-    } else {
-        errors.err.put(b"");
-    }
+    tell_reason(Some(settings), "no lock: ", reason, &mut errors.err);
+    errors.close(Subject::Notice);
 }
 
 /// Warns that others can read the password and the mail on their way, if reasons are to be written.

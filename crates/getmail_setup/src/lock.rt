@@ -1,168 +1,122 @@
 //! The lock that keeps two runs of an account apart.
 ghost use Rattle.std.specs.{
-  Prelude.{◌≡◌, ℕ, false, true, List, Option, Result},
-  String.string_bytes,
-  declared.fs.{File.File, locks.TryLockError.TryLockError},
+  IoError.error_kind,
+  Prelude.{◌≡◌, Err, IfErr, Ok, OnOk, false, true},
+  declared.fs.locks.TryLockError.TryLockError,
 };
-ghost use Rattle.getmail_setup.specs.Lock.{Hinders, LocksAt, TellsLock, lock_of};
+ghost use Rattle.getmail_setup.specs.{
+  Lock.{DoesWith, IsMarked, IsSince, LocksAt, TakesLock},
+  LockPlace.{Hinders, MayBeOpened},
+};
 
 use crate::clock::second_of;
-use crate::errors::{Errors, Reasons, tell_unlocked};
+use crate::errors::{Errors, tell_unlocked};
+use crate::lock_calls::LockCalls;
 use crate::setup::Setup;
 use std::alloc::Global;
-use std::fs::{File, Metadata, OpenOptions, TryLockError};
-use std::io::{self, ErrorKind, Write};
-use std::os::unix::fs::OpenOptionsExt;
-use std::rt::{Clock, Files};
-use std::time::SystemTime;
-use system_calls::{Denial, System};
+use std::fs::{File, Metadata, TryLockError};
+use std::io::{ErrorKind, Write};
+use system_calls::{Denial, Refusals};
 
 /// What became of a run's lock.
 #[derive(Drop)]
 pub enum Lock {
     /// The run has it as long as this file is open.
     Held(File),
-    /// Another run has it.
-    Elsewhere,
+    /// Another run has it, since this second since 1970; 0 if that isn't known.
+    Elsewhere(u64),
     /// There is none: the run changes nothing, or none is to be had.
     Without,
 }
 
-/// What keeps a lock's file from being opened, by what was found in its place. Nothing but a regular file is opened:
-/// for another end of a pipe it would be waited.
-fn hindrance(alloc: Global, path: &str, found: Result<Metadata, Denial>) -> Option<Denial>
-    ensures { Hinders found result }
+/// Whether a lock's file may be opened, by what was found in its place. Nothing but a regular file is: a device may be
+/// waited for, and a link leads elsewhere.
+fn check(alloc: Global, path: &str, found: Result<Metadata, Denial>) -> Result<(), Denial>
+    ensures ok { OnOk result (MayBeOpened found) }
+    ensures err { IfErr result (Hinders path.now found) }
 {
     match found {
-        Ok(found) if !found.is_file() => Some(Denial::because(alloc, path, "not a regular file")),
-        Err(denial) if denial.kind() != ErrorKind::NotFound => Some(denial),
-        _ => None,
+        Ok(found) if !found.is_file() => Err(Denial::because(alloc, path, "not a regular file")),
+        Err(denial) if denial.kind() != ErrorKind::NotFound => Err(denial),
+        _ => Ok(()),
     }
 }
 
-/// The lock's file, opened; it is made if there is none.
-fn open_lock<R: Files<File = File> + AllocGlobal>(
-    system: &System<'_, R>,
+/// Marks a locked file with the time, for a run that finds it locked.
+fn mark_time<L: LockCalls>(calls: &L, file: &File)
+    requires { (done : Unit {0}) × L.asked calls.now file.now (Ok done) }
+    ensures { IsMarked L.LockCalls calls.now file.now }
+{
+    if let Some(now) = calls.now() {
+        calls.futimens(file, now);
+    }
+}
+
+/// The second at which a file was marked that another process has locked, which is noted; 0 if it isn't known.
+fn held_since<L: LockCalls>(calls: &L, refusals: &Refusals, path: &str, file: &File) -> u64
+    requires { L.asked calls.now file.now (Err TryLockError.WouldBlock) }
+    ensures { IsSince L.LockCalls calls.now file.now result }
+{
+    let _ = refusals.refuse(path, "another process has locked it");
+    second_of(calls.fstat(file))
+}
+
+/// Tries to lock the file at a path, without waiting. It is made if there is none.
+fn lock_at<L: LockCalls>(
+    alloc: Global,
+    calls: &L,
+    refusals: &Refusals,
     path: &str,
-) -> io::Result<File> {
-    if let Some(denial) = hindrance(system.alloc(), path, system.lstat(path)) {
-        return system.refusals.kept(Err(denial));
+) -> Result<Lock, Denial>
+    ensures { LocksAt L.LockCalls calls.now path.now result }
+{
+    check(alloc, path, calls.lstat(path))?;
+    let file = refusals.asked("open", path, calls.open(path))?;
+    match calls.flock(&file) {
+        Ok(()) => {
+            mark_time(calls, &file);
+            Ok(Lock::Held(file))
+        }
+        Err(TryLockError::WouldBlock) => {
+            Ok(Lock::Elsewhere(held_since(calls, refusals, path, &file)))
+        }
+        Err(TryLockError::Error(error)) => refusals.asked("flock", path, Err(error)),
     }
-    let file = OpenOptions::new()
-        .read(true)
-        .write(true)
-        .create(true)
-        .mode(0o600)
-        .open(system.rt, path);
-    system.refusals.noted("open", path, file)
 }
 
-/// What became of the lock on a file for which the system gave this answer.
-fn lock_of(file: File, answer: &Result<(), TryLockError>) -> Lock
-    ensures { result ≡ lock_of file answer.now }
+/// The lock that was got, or none; then it is told why, if reasons are to be written.
+fn lock_or_none<E: Write>(
+    alloc: Global,
+    setup: &Setup,
+    answer: Result<Lock, Denial>,
+    errors: &mut Errors<'_, E>,
+) -> Lock
+    ensures { DoesWith E.contents setup.now answer result errors.old errors.new }
 {
     match answer {
-        Ok(()) => Lock::Held(file),
-        Err(TryLockError::WouldBlock) => Lock::Elsewhere,
-        Err(TryLockError::Error(_)) => Lock::Without,
-    }
-}
-
-/// Marks a locked file with the time, for a run that finds it locked. Nothing rests on it.
-fn mark_time<R: Files<File = File> + Clock>(rt: &R, file: &File) {
-    if let Ok(now) = SystemTime::now(rt) {
-        let _ = file.set_modified(now);
-    }
-}
-
-/// The second since 1970 at which a file was marked.
-fn time_of(file: &File) -> Option<u64> {
-    let marked = file.metadata().ok()?.modified().ok()?;
-    Some(second_of(Some(marked)))
-}
-
-/// One that opens files and asks for their locks.
-pub trait LockFiles {
-    // It opened this file at a path, or could open none.
-    ghost opened: { Self → List ℕ → Option File → Type 0 };
-
-    // It asked for the lock of a file, with this answer.
-    ghost asked: { Self → File → Result (Unit {0}) TryLockError → Type 0 };
-
-    /// The file at a path, opened; it is made if there is none.
-    fn open(&self, path: &str) -> Option<File>
-        ensures { opened self.now path.now result };
-
-    /// Asks for the lock of the file at a path, without waiting.
-    fn ask(&self, path: &str, file: &File) -> Result<(), TryLockError>
-        ensures { asked self.now file.now result };
-}
-
-/// A machine's files, and where it is noted why one isn't locked.
-#[derive(Drop)]
-pub struct SystemLocks<'a, R> {
-    pub rt: &'a R,
-    pub reasons: &'a Reasons,
-}
-
-impl<'a, R: Files<File = File> + Clock + AllocGlobal> LockFiles for SystemLocks<'a, R> {
-    ghost opened = { λ _ _ _. Unit {0} };
-
-    ghost asked = { λ _ _ _. Unit {0} };
-
-    fn open(&self, path: &str) -> Option<File> {
-        open_lock(&System::new(self.rt, &self.reasons.before), path).ok()
-    }
-
-    fn ask(&self, path: &str, file: &File) -> Result<(), TryLockError> {
-        let refusals = &self.reasons.before;
-        let answer = file.try_lock();
-        match &answer {
-            Ok(()) => mark_time(self.rt, file),
-            Err(TryLockError::WouldBlock) => {
-                self.reasons.held_since.set(time_of(file));
-                let _ = refusals.refuse(path, "another process has locked it");
-            }
-            Err(TryLockError::Error(error)) => {
-                let _ = refusals.noted("flock", path, Err::<(), io::Error>(*error));
-            }
+        Ok(lock) => lock,
+        Err(denial) => {
+            tell_unlocked(alloc, &setup.settings, denial, errors);
+            Lock::Without
         }
-        answer
     }
 }
 
-/// Tries to lock the file at a path, without waiting.
-fn lock_at<L: LockFiles>(locks: &L, path: &str) -> Lock
-    ensures { LocksAt (L.opened locks.now) (L.asked locks.now) path.now result }
-{
-    match locks.open(path) {
-        Some(file) => {
-            let answer = locks.ask(path, &file);
-            lock_of(file, &answer)
-        }
-        None => Lock::Without,
-    }
-}
-
-/// Takes the lock of a run's account, unless the run changes nothing. If none is to be had, the run goes on
-/// without: that is told, if reasons are to be written.
-pub fn take_lock<L: LockFiles, E: Write>(
+/// Takes the lock of a run's account, unless the run changes nothing. If none is to be had, the run goes on without.
+pub fn take_lock<L: LockCalls, E: Write>(
     alloc: Global,
-    locks: &L,
+    calls: &L,
     setup: &Setup,
     errors: &mut Errors<'_, E>,
 ) -> Lock
-    ensures none { setup.now.pretends ≡ true → result ≡ Lock.Without }
+    ensures none { setup.now.pretends ≡ true → (result ≡ Lock.Without) × (errors.new ≡ errors.old) }
     ensures taken { setup.now.pretends ≡ false
-        → LocksAt (L.opened locks.now) (L.asked locks.now) (string_bytes setup.now.paths.lock) result }
-    ensures told { TellsLock E.contents setup.now result errors.old errors.new }
+        → TakesLock L.LockCalls calls.now E.contents setup.now result errors.old errors.new }
 {
     if setup.pretends {
         return Lock::Without;
     }
-    let lock = lock_at(locks, setup.paths.lock.as_str());
-    if let Lock::Without = &lock {
-        tell_unlocked(alloc, &setup.settings, errors);
-    }
-    lock
+    let path = setup.paths.lock.as_str();
+    let answer = lock_at(alloc, calls, &errors.reasons.before, path);
+    lock_or_none(alloc, setup, answer, errors)
 }
