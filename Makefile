@@ -78,7 +78,7 @@ test:
 	python3 tests/test_tools.py
 	python3 tests/run.py
 
-test-getmail: popd
+test-getmail: popd probe
 test-getmail test-popd test-probe test-libraries: test-%: %
 	python3 tests/run.py --only $* $(WORDS)
 

@@ -37,6 +37,7 @@ WANTED_AS_ENTRIES = [WANTED[0], (WANTED[1][0], b"a line\n" * 1400), WANTED[2]]
 # Too large to be fetched, so that their ids alone make the record long: a group goes over the end of a block.
 TOO_LARGE = b"x\n" * 10_001
 LIMIT = "max_message_size = 20000\n"
+RCFILE = ".getmail/getmailrc"
 
 
 def large_ones(count, word):
@@ -103,6 +104,17 @@ def libraries():
         yield Libraries(watch, clock)
 
 
+@dataclass(frozen=True)
+class BadState:
+    """A state that is bad since flushes were left out: the tree before, the changes without these flushes, the changes with
+    them, and the state."""
+
+    start: dict[str, bytes]
+    changes: list
+    changes_with: list
+    image: dict[str, bytes]
+
+
 @dataclass
 class Findings:
     """How many states there were, and what was bad after some of them."""
@@ -111,6 +123,7 @@ class Findings:
     states: int = 0
     bad: int = 0
     told: list[str] = field(default_factory=list)
+    state: BadState | None = None
 
     def line(self):
         return f"{self.scene.name}: {self.states} states, {self.bad} bad"
@@ -157,10 +170,10 @@ class Stage:
     def tree(self):
         """The account's files except the rc file and the note."""
         tree = power.read_tree(self.account.home)
-        return {path: content for path, content in tree.items() if path not in ("note", ".getmail/getmailrc")}
+        return {path: content for path, content in tree.items() if path not in ("note", RCFILE)}
 
     def build(self, image):
-        power.build(self.account.home, {**image, ".getmail/getmailrc": self.account.rcfile.read_bytes()})
+        power.build(self.account.home, {**image, RCFILE: self.account.rcfile.read_bytes()})
 
     def watch(self, *words, killed=None):
         """The rows of a run's changes; with `killed` it is killed after that many."""
@@ -187,7 +200,7 @@ class Stage:
         for change in changes:
             disk.take(change)
         image, _ = next(disk.images(1, random.Random(0)))
-        image.pop(".getmail/getmailrc")
+        image.pop(RCFILE)
         if image != self.tree():
             raise AssertionError("the rows of the changes don't give the files that are there")
 
@@ -238,11 +251,10 @@ def play(scene, libraries, most, limit=None, without=None):
     source = random.Random(scene.name)
     found, seen = Findings(scene), set()
     with Stage(scene, libraries) as stage:
-        for watched, changes, first in sessions_of(stage, source, limit):
-            if without is not None:
-                changes, first = leave_out(changes, first, without)
+        for watched, changes_with, first in sessions_of(stage, source, limit):
+            changes, first, ends = leave_out(changes_with, first, without or (lambda *_: False))
             for count, image, lost in power.fronts(watched, changes, most, source, first):
-                image.pop(".getmail/getmailrc", None)
+                rcfile = image.pop(RCFILE)
                 for messages in stage.servers_after(changes[:count]):
                     state = hash((tuple(sorted(image.items())), len(messages)))
                     if state in seen:
@@ -254,21 +266,22 @@ def play(scene, libraries, most, limit=None, without=None):
                         found.bad += 1
                         found.tell(changes[:count], len(messages), lost, faults)
                     if found.bad and without is not None:
+                        found.state = BadState(watched.start, changes[:count], changes_with[:ends[count]],
+                                               {**image, RCFILE: rcfile})
                         return found
     return found
 
 
 def leave_out(changes, first, without):
-    """The changes without the flushes that `without` picks, given each change and the command sent before it."""
-    kept, before, command = [], first, b""
+    """The changes without the flushes that `without` picks, given each change and the command sent before it; how many of them
+    come before the last session; and for each front of them how long it is with these flushes, also those just behind it."""
+    kept, command = [], b""
     for place, change in enumerate(changes):
         if isinstance(change, power.Sent):
             command = change.octets.split()[0]
         if not without(change, command):
-            kept.append(change)
-        elif place < first:
-            before -= 1
-    return kept, before
+            kept.append(place)
+    return [changes[place] for place in kept], sum(place < first for place in kept), [*kept, len(changes)]
 
 
 def sessions_of(stage, source, limit):

@@ -1,105 +1,38 @@
-"""Each state of the disk that a loss of power can leave of a run is one that the definitions allow.
+"""Each state of the disk that a loss of power can leave of a run is one that the definitions of the proofs allow.
 
-The states are built from what the program did, by `harness/power.py`, which knows nothing of the definitions. They are
-said here once more for single states: `MayLeave` (mail_store/specs/Durable.antt) of the record, an mboxrd file and each
-other file, `LosesPower` (mail_store/specs/Loss.antt) of a Maildir. No flush is refused here.
+The states are those of `test_power.py`, built from what the program did by `harness/power.py`, which knows nothing of the
+definitions. The program `probe` makes the same calls in memory, and says whether they are allowed (`harness/power_lists.py`).
+No flush is refused here, and no reader moves a file.
 """
 
 import os
 import random
 import unittest
 from collections import Counter
-from dataclasses import dataclass
 
 from getmail.power import SCENES, Stage, libraries, sessions_of
+from getmail.test_power import KILLS, MOST
 from harness import power
-from harness.power import Flush, FlushFolder, Length, Name, Write
+from harness.power import Flush, FlushFolder, Name, Write
+from harness.power_lists import Judge
 
-BLOCK = 512
-MOST, KILLS = 8, 4
-FOLDERS = ("Maildir/new", "Maildir/cur")
-
-
-@dataclass
-class Blob:
-    """A file's bytes, those that it had when it was last flushed, and how many of these weren't cut off since."""
-
-    content: bytes = b""
-    flushed: bytes = b""
-    uncut: int = 0
-
-    def flush(self):
-        self.flushed, self.uncut = self.content, len(self.content)
-
-    def may_leave(self, left):
-        return left in (self.flushed, self.content) or self.is_torn(left)
-
-    def is_torn(self, left):
-        """Each byte behind those kept is in memory, or was flushed, or is zero with all after it in its block."""
-        def is_byte_left(at):
-            return (left[at:at + 1] in (self.content[at:at + 1], self.flushed[at:at + 1])
-                    or at < len(self.content) and not any(left[at:(at // BLOCK + 1) * BLOCK]))
-
-        return (left[:self.uncut] == self.content[:self.uncut]
-                and (len(left) <= len(self.content) or len(left) == len(self.flushed))
-                and all(map(is_byte_left, range(self.uncut, len(left)))))
+# How many states are judged by one run of the program, at least.
+AT_ONCE = 4096
+# The wrong judges and the wrong disk are tried on fewer states.
+FEW, FEW_KILLS = 8, 4
 
 
-class Model:
-    """The files, and what each path led to since the names of its folder were last flushed, the last one last."""
-
-    def __init__(self, start):
-        self.led_to = {path: [number] for number, path in enumerate(sorted(start))}
-        self.blobs = {number: Blob(start[path]) for path, [number] in self.led_to.items()}
-        for blob in self.blobs.values():
-            blob.flush()
-
-    def take(self, change):
-        match change:
-            case Name(path, file):
-                self.blobs.setdefault(file, Blob())
-                self.led_to.setdefault(path, [None]).append(file)
-            case Write(file, _, octets):
-                self.blobs[file].content += octets
-            case Length(file, size):
-                blob = self.blobs[file]
-                blob.content, blob.uncut = blob.content[:size], min(size, blob.uncut)
-            case Flush(file):
-                self.blobs[file].flush()
-            case FlushFolder(folder):
-                for path, led_to in self.led_to.items():
-                    if os.path.dirname(path) == folder:
-                        del led_to[:-1]
-
-    def allows(self, image):
-        def is_allowed(path):
-            is_left = self.is_left_as if os.path.dirname(path) in FOLDERS else self.may_leave
-            return is_left(self.led_to[path], image.get(path))
-
-        return image.keys() <= self.led_to.keys() and all(map(is_allowed, self.led_to))
-
-    def may_leave(self, led_to, left):
-        return any(left is file if None in (left, file) else self.blobs[file].may_leave(left) for file in led_to)
-
-    def is_left_as(self, led_to, left):
-        """A file of a Maildir is gone only if its name isn't durable, and has its bytes if they are."""
-        if left is None:
-            return len(led_to) > 1
-        blob = self.blobs[led_to[-1]]
-        return left == blob.content or blob.flushed != blob.content
-
-
-class Forgetful(Model):
-    """A model that takes a name to be durable as soon as it is there."""
+class Forgetful(Judge):
+    """A judge for whom a name is durable as soon as it is there."""
 
     def take(self, change):
         super().take(change)
-        if isinstance(change, Name):
+        if isinstance(change, Name) and change.file is not None:
             super().take(FlushFolder(os.path.dirname(change.path)))
 
 
-class Hasty(Model):
-    """A model that takes bytes to be durable as soon as they are written."""
+class Hasty(Judge):
+    """A judge for whom octets are durable as soon as they are written."""
 
     def take(self, change):
         super().take(change)
@@ -107,19 +40,30 @@ class Hasty(Model):
             super().take(Flush(change.file, ""))
 
 
-def judged(scene, preloaded, kinds):
-    """How many states of a scene there were, and how many of them each kind of model doesn't allow."""
+class Lossy(power.Disk):
+    """A disk that loses octets that were flushed."""
+
+    def take(self, change):
+        if not isinstance(change, Flush):
+            super().take(change)
+
+
+def judged(scene, preloaded, kinds, most, kills, disk_kind=power.Disk):
+    """How many states of a scene there were, and how many of them each kind of judge doesn't allow."""
     source, seen, refused = random.Random(scene.name), 0, Counter()
     with Stage(scene, preloaded) as stage:
-        for watched, changes, first in sessions_of(stage, source, KILLS):
-            disk, models = power.Disk(watched.start), [kind(watched.start) for kind in kinds]
+        for watched, changes, first in sessions_of(stage, source, kills):
+            disk, judges = disk_kind(watched.start), [kind(watched.start) for kind in kinds]
             for count, change in enumerate([*changes, None]):
-                for image, _ in disk.images(MOST, source) if count >= first else ():
+                for image, _ in disk.images(most, source) if count >= first else ():
                     seen += 1
-                    for model in models:
-                        refused[type(model)] += not model.allows(image)
+                    for judge in judges:
+                        judge.ask(image)
+                for judge in judges:
+                    if change is None or len(judge.states) > AT_ONCE:
+                        refused[type(judge)] += judge.verdicts().count(False)
                 if change is not None:
-                    for taker in (disk, *models):
+                    for taker in (disk, *judges):
                         taker.take(change)
     return seen, refused
 
@@ -132,18 +76,27 @@ class DiskStates(unittest.TestCase):
         cls.addClassCleanup(preloaded.__exit__, None, None, None)
 
     def test_each_state_is_allowed(self):
-        """And models that take names or bytes to be durable too early don't allow some of them."""
         for is_mboxrd, store in ((False, "a Maildir"), (True, "an mboxrd file")):
-            states, refused_by = 0, Counter()
+            states = 0
             for scene in (scene for scene in SCENES if scene.is_mboxrd == is_mboxrd):
-                seen, refused = judged(scene, self.libraries, (Model, Forgetful, Hasty))
+                seen, refused = judged(scene, self.libraries, (Judge,), MOST, KILLS)
                 states += seen
-                refused_by += refused
                 with self.subTest(scene.name):
-                    self.assertEqual(refused[Model], 0)
-            print(f"{store}: {states} states; wrong models refuse {refused_by[Forgetful]} and {refused_by[Hasty]}")
-            self.assertGreater(states, 500)
-            self.assertGreater(min(refused_by[Forgetful], refused_by[Hasty]), 0)
+                    self.assertEqual(refused[Judge], 0)
+            print(f"{store}: {states} states")
+            self.assertGreater(states, 10_000)
+
+    def test_wrong_judges_and_a_wrong_disk_are_found(self):
+        """Judges that take names or octets to be durable too early, and a disk that loses what was flushed."""
+        scenes = {scene.name: scene for scene in SCENES}
+        first = scenes["first session, deleting"]
+        for scene in (first, scenes[f"{first.name}, into an mboxrd file"]):
+            with self.subTest(scene.name):
+                _, refused = judged(scene, self.libraries, (Forgetful, Hasty), FEW, FEW_KILLS)
+                _, lost = judged(scene, self.libraries, (Judge,), FEW, FEW_KILLS, Lossy)
+                print(f"{scene.name}: wrong judges refuse {refused[Forgetful]} and {refused[Hasty]}, "
+                      f"the judge {lost[Judge]} of a wrong disk")
+                self.assertGreater(min(refused[Forgetful], refused[Hasty], lost[Judge]), 0)
 
 
 if __name__ == "__main__":

@@ -9,6 +9,7 @@ import unittest
 
 from getmail.power import SCENES, libraries, play_all
 from harness.power import Flush, FlushFolder
+from harness.power_lists import may_be_left
 
 WHOLE = os.environ.get("TESTS_POWER") == "whole"
 MOST = 4096 if WHOLE else 24
@@ -46,6 +47,16 @@ def flushes_entries_before_settling(change, command):
     return isinstance(change, Flush) and change.path == "mbox" and command == b"LIST"
 
 
+def left_out():
+    """Each kind of flush that is left out, and of which scene."""
+    scenes = {scene.name: scene for scene in SCENES}
+    first, killed = scenes["first session, deleting"], scenes["first session, deleting, after a kill"]
+    mboxrd, its_kills = (scenes[f"{scene.name}, into an mboxrd file"] for scene in (first, killed))
+    return ((first, flushes_a_text), (first, flushes_new), (first, flushes_a_replaced_record),
+            (killed, flushes_new_before_telling), (mboxrd, flushes_an_entry), (mboxrd, flushes_an_intent),
+            (its_kills, flushes_entries_before_settling))
+
+
 class Power(unittest.TestCase):
     @classmethod
     def setUpClass(cls):
@@ -62,17 +73,15 @@ class Power(unittest.TestCase):
                 self.assertEqual(found.bad, 0, "\n".join([found.line(), *found.told[:3]]))
 
     def test_a_flush_that_is_left_out_is_found(self):
-        """Each kind of flush is needed: without it some state is bad."""
-        scenes = {scene.name: scene for scene in SCENES}
-        first, killed = scenes["first session, deleting"], scenes["first session, deleting, after a kill"]
-        mboxrd, its_kills = (scenes[f"{scene.name}, into an mboxrd file"] for scene in (first, killed))
-        left_out = ((first, flushes_a_text), (first, flushes_new), (first, flushes_a_replaced_record),
-                    (killed, flushes_new_before_telling), (mboxrd, flushes_an_entry), (mboxrd, flushes_an_intent),
-                    (its_kills, flushes_entries_before_settling))
-        jobs = [(scene, self.libraries, MOST, KILLS, without) for scene, without in left_out]
-        for found, (scene, without) in zip(play_all(jobs), left_out):
+        """Each kind of flush is needed: without it some state is bad. That is a state of the model in which the proofs speak of
+        losses of power, after the same calls without the flush, and none with it."""
+        jobs = [(scene, self.libraries, MOST, KILLS, without) for scene, without in left_out()]
+        for found, (scene, without) in zip(play_all(jobs), left_out()):
             with self.subTest(without.__name__):
                 self.assertEqual(found.bad, 1, found.line())
+                state = found.state
+                self.assertTrue(may_be_left(state.start, state.changes, state.image), found.told)
+                self.assertFalse(may_be_left(state.start, state.changes_with, state.image), found.told)
 
 
 if __name__ == "__main__":

@@ -2,8 +2,8 @@
 
 ghost use Rattle.std.specs.Prelude.{◌≡◌, ◌<◌, length};
 
-use crate::shared;
 use crate::trouble::{Result, Trouble};
+use crate::{power, shared};
 use folder_store::{Access, FileCalls, FileKind, FileStat, HostCalls, MadeHandle};
 use std::alloc::Global;
 use std::fs;
@@ -35,9 +35,9 @@ struct Handles<C: FileCalls> {
 
 /// A file system, and what a list did with it.
 #[derive(Drop)]
-struct FilePlayer<C: FileCalls> {
+pub struct FilePlayer<C: FileCalls> {
     alloc: Global,
-    calls: C,
+    pub calls: C,
     handles: Handles<C>,
 }
 
@@ -308,6 +308,19 @@ pub fn play<P: Player>(
     Ok(())
 }
 
+/// A player on a file system.
+pub fn player_on<C: FileCalls + Drop>(alloc: Global, calls: C) -> FilePlayer<C> {
+    let handles = Handles {
+        made: Vec::new(alloc),
+        opened: Vec::new(alloc),
+    };
+    FilePlayer {
+        alloc,
+        calls,
+        handles,
+    }
+}
+
 /// Makes the calls of a list on a file system.
 fn play_files<C: FileCalls + Drop>(
     rt: &HostRuntime,
@@ -316,16 +329,7 @@ fn play_files<C: FileCalls + Drop>(
     list: &str,
     answers: &mut Vec<u8>,
 ) -> Result<()> {
-    let alloc = rt.alloc();
-    let handles = Handles {
-        made: Vec::new(alloc),
-        opened: Vec::new(alloc),
-    };
-    let mut player = FilePlayer {
-        alloc,
-        calls,
-        handles,
-    };
+    let mut player = player_on(rt.alloc(), calls);
     play(rt, folder, &mut player, list, answers)
 }
 
@@ -348,6 +352,8 @@ fn play_on(rt: &HostRuntime, system: &str, list: &str, answers: &mut Vec<u8>) ->
             let name = String::from_str(rt.alloc(), folder)?;
             play_files(rt, None, MemoryCalls::new(rt.alloc(), name), list, answers)
         }
+        "power" => power::play_files(rt, folder, list, answers),
+        "shared-power" => power::play_mail(rt, list, answers),
         _ => shared::play_on(rt, &machine, system, folder, list, answers),
     }
 }

@@ -6,6 +6,7 @@ mod calls;
 mod conversation;
 mod judging;
 mod mbox;
+mod power;
 mod record;
 mod shared;
 mod stopwatch;
@@ -20,6 +21,7 @@ fn tell_usage(rt: &HostRuntime) -> Result<()> {
     println!(rt;
         "usage: probe client, or judge|machine|memory|shared-machine|shared-memory FILE,"
     )?;
+    println!(rt; "       or power|shared-power FILE,")?;
     println!(rt; "       or session|read COUNT,")?;
     println!(rt; "       or held|deliver|rewrite|append|blocks|sweep|texts|quote PATH COUNT")?;
     Ok(())
@@ -42,9 +44,8 @@ fn use_record(rt: &HostRuntime, call: &str, subject: &str) -> Result<()> {
         "session" => record::time_session(rt, subject.parse()?),
         "read" => record::time_read(rt, subject.parse()?),
         "judge" => judging::judge(rt, subject),
-        "machine" | "memory" | "shared-machine" | "shared-memory" => calls::play_lists(
-            rt, call, subject,
-        ),
+        "machine" | "memory" | "power" => calls::play_lists(rt, call, subject),
+        "shared-machine" | "shared-memory" | "shared-power" => calls::play_lists(rt, call, subject),
         _ => tell_usage(rt),
     }
 }

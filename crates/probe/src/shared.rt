@@ -24,9 +24,9 @@ const SOUGHT: usize = 4;
 
 /// A system, and what a list did with it.
 #[derive(Drop)]
-struct SharedPlayer<S: SharedCalls> {
+pub struct SharedPlayer<S: SharedCalls> {
     alloc: Global,
-    calls: S,
+    pub calls: S,
     account: AccountId,
     listing: Listing,
     /// What was made, in the order in which it was asked for. None is what was refused.
@@ -265,7 +265,7 @@ fn rename<S: SharedCalls>(
 }
 
 /// A player on a system.
-fn player_on<S: SharedCalls + Drop>(alloc: Global, calls: S) -> Result<SharedPlayer<S>> {
+pub fn player_on<S: SharedCalls + Drop>(alloc: Global, calls: S) -> Result<SharedPlayer<S>> {
     Ok(SharedPlayer {
         alloc,
         calls,
