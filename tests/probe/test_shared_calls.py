@@ -2,7 +2,8 @@
 systems and in the folders in memory, which provably do what the devices take for granted: each answer must be the same, and
 so must the files at the end.
 
-`CALL_LISTS=100000 CALL_FOLDERS=/mnt/a:/mnt/b python3 tests/run.py -k random_shared_lists` makes more lists than the gate does.
+`CALL_LISTS=100000 CALL_FOLDERS=/mnt/a:/mnt/b TESTS_MINUTES=300 python3 tests/run.py -k random_shared_lists` makes more lists
+than the gate does, in folders of other file systems.
 """
 
 import os
