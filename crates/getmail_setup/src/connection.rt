@@ -104,18 +104,28 @@ trait Dial {
         ensures ok { IfOk result (took self.now address (as_nanos limit)) }
         ensures err { IfErr result (λ _. refused self.now address (as_nanos limit)) };
 
+    // The socket at a path took this connection.
+    ghost took_path: { Self → List ℕ → Self.Stream → Type 0 };
+
+    // It took none.
+    ghost refused_path: { Self → List ℕ → Type 0 };
+
+    fn dial_path(&self, path: &str) -> io::Result<Self::Stream>
+        ensures ok { IfOk result (took_path self.now path.now) }
+        ensures err { IfErr result (λ _. refused_path self.now path.now) };
+
     /// Notes why an address isn't taken.
     fn note(&self, address: SocketAddr, error: io::Error);
 }
 
-/// TCP, and where it is noted why an address isn't taken.
+/// A machine's network, and where it is noted why an address isn't taken.
 #[derive(Drop)]
-struct Tcp<'a, R> {
+struct Network<'a, R> {
     rt: &'a R,
     refusals: &'a Refusals,
 }
 
-impl<'a, R: Net<Stream = TcpStream> + AllocGlobal> Dial for Tcp<'a, R> {
+impl<'a, R: Net<Stream = TcpStream> + AllocGlobal> Dial for Network<'a, R> {
     type Stream = TcpStream;
 
     ghost named = { λ _ _ _ _. Unit {0} };
@@ -125,6 +135,10 @@ impl<'a, R: Net<Stream = TcpStream> + AllocGlobal> Dial for Tcp<'a, R> {
     ghost took = { λ _ _ _ _. Unit {0} };
 
     ghost refused = { λ _ _ _. Unit {0} };
+
+    ghost took_path = { λ _ _ _. Unit {0} };
+
+    ghost refused_path = { λ _ _. Unit {0} };
 
     fn addresses(&self, server: &str, port: u16) -> io::Result<Vec<SocketAddr>> {
         let found = (server, port).to_socket_addrs(self.rt);
@@ -137,6 +151,12 @@ impl<'a, R: Net<Stream = TcpStream> + AllocGlobal> Dial for Tcp<'a, R> {
         let stream = TcpStream::connect_timeout(self.rt, &address, limit)?;
         stream.set_nodelay(true)?;
         Ok(stream)
+    }
+
+    /// What reads and writes a stream is the same for either kind.
+    fn dial_path(&self, path: &str) -> io::Result<TcpStream> {
+        let stream = UnixStream::connect(self.rt, path)?;
+        Ok(TcpStream::from(OwnedFd::from(stream)))
     }
 
     /// Without memory it isn't noted.
@@ -210,10 +230,14 @@ fn connect_over_tcp<'a, D: Dial>(
     }
 }
 
-/// Connects to a socket. What reads and writes a stream is the same for either kind.
-fn connect_to_socket<R: Net<Stream = TcpStream>>(net: &R, path: &str) -> io::Result<TcpStream> {
-    let stream = UnixStream::connect(net, path)?;
-    with_limits(TcpStream::from(OwnedFd::from(stream)))
+/// Connects to a socket.
+fn connect_to_socket<D: Dial>(net: &D, path: &str) -> io::Result<D::Stream>
+    ensures ok { IfOk result (λ stream. D.took_path net.now path.now stream
+        × HasLimits D.Stream.limits_reads D.Stream.limits_writes stream) }
+    ensures err { IfErr result (λ _. D.refused_path net.now path.now
+        ⊎ ((stream : D.Stream) × D.took_path net.now path.now stream × D.Stream.is_refused stream)) }
+{
+    with_limits(net.dial_path(path)?)
 }
 
 /// Whether a server is the absolute path of a socket.
@@ -252,8 +276,9 @@ pub fn connect<'a, R: Net<Stream = TcpStream> + AllocGlobal>(
     ensures err { IfErr result (λ failure.
         (failure ≡ Failure.NoMemory) ⊎ (failure ≡ Failure.CannotConnect server.entry port)) }
 {
+    let net = Network { rt, refusals };
     if !is_socket(server) {
-        return match connect_over_tcp(&Tcp { rt, refusals }, server, port) {
+        return match connect_over_tcp(&net, server, port) {
             Ok((stream, address)) => Ok(Connection {
                 stream,
                 leaves: leaves(&address),
@@ -261,7 +286,7 @@ pub fn connect<'a, R: Net<Stream = TcpStream> + AllocGlobal>(
             Err(failure) => Err(failure),
         };
     }
-    match refusals.noted("connect", server, connect_to_socket(rt, server)) {
+    match refusals.noted("connect", server, connect_to_socket(&net, server)) {
         Ok(stream) => Ok(Connection {
             stream,
             leaves: false,
