@@ -26,7 +26,7 @@ use Rattle.getmail_setup.specs.{
   Digest.digest_text,
   Output.Puts,
   declared.{
-    journal.{Part.Part, Subject.{Subject, TheVariants.{Fault, Notice, Lasting, LeftOut}}},
+    journal.{Notes.Notes, Part.Part, Subject.{Subject, TheVariants.{Fault, Notice, Lasting, LeftOut}}},
     listed.Large.Large,
     output.Output.Output,
   },
@@ -56,6 +56,17 @@ IsDate second text = ((date : HttpDate) × (unix_secs date ≡ second) × (text 
 -- an account is named by its name or, if that isn't known, by the rc file's path
 abbrev pub name_or : List ℕ → Option (List ℕ) → List ℕ
 name_or account path = if length account == 0 then option_map_or (λ octets. octets) path account else account
+
+-- what a journal has is what its run said
+abbrev pub IsSaid : Notes → Option (List ℕ) → RunSaid → Type 0
+IsSaid notes path said = (said.account.items ≡ name_or notes.account.items path) × (said ≡ record {
+  account = said.account;
+  parts = notes.parts;
+  left = notes.left_out;
+  has_ended = notes.has_ended;
+  has_met = notes.has_met;
+  lacks_memory = notes.lacks_memory;
+})
 
 -- a line that names the account
 abbrev pub account_line : List ℕ → List ℕ → List ℕ

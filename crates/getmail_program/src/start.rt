@@ -6,7 +6,7 @@ ghost use Rattle.std.specs.{
 };
 ghost use Rattle.getmail_setup.specs.{Failures.status_of, Places.IsRcPath};
 ghost use Rattle.system_calls.specs.declared.system.System.{System};
-ghost use Rattle.getmail_program.specs.{Fetching.Runs, News.name_or, Rehearsal.Rehearses, Starting.{LeadsTo, Starts}};
+ghost use Rattle.getmail_program.specs.{Fetching.Runs, News.{IsSaid, name_or}, Rehearsal.Rehearses, Starting.{LeadsTo, Starts}};
 
 use crate::fetch::{Machine, is_unattended, run};
 use crate::news::{RunSaid, tell_news};
@@ -17,8 +17,8 @@ use fetch_rules::RcFault;
 use file_reading::ReadFile;
 use folder_store::{HostFile, HostFolder, HostMaildir};
 use getmail_setup::{
-    Errors, Failure, Journal, Kept, Link, Output, Reasons, Words, explain, fail, folder, home,
-    rc_file, read_words, tell,
+    Errors, Failure, Journal, Kept, Link, Notes, Output, Reasons, Words, explain, fail, folder,
+    home, rc_file, read_words, tell,
 };
 use mail_store::{FlatFile, MaildirDisk, MemoryFile, MemoryMaildir};
 use pop3_wire::{StreamWire, Wire};
@@ -103,15 +103,26 @@ fn name_or(account: Vec<u8>, path: Option<String>) -> Vec<u8>
     }
 }
 
-/// What a run said. It is taken out of its journal.
-fn said_in<R: Env + AllocGlobal>(rt: &R, words: &Words, journal: &Journal) -> RunSaid {
+/// What a run said, by what its journal has; the path is the rc file's.
+fn said_of(notes: Notes, path: Option<String>) -> RunSaid
+    ensures { IsSaid notes (option_map string_bytes path) result }
+{
+    let Notes {
+        account,
+        parts,
+        left_out,
+        has_ended,
+        has_met,
+        lacks_memory,
+        ..
+    } = notes;
     RunSaid {
-        account: name_or(journal.take_account(), rc_path_of(rt, words)),
-        parts: journal.take(),
-        left: journal.take_left_out(),
-        has_ended: journal.has_ended(),
-        has_met: journal.has_met(),
-        lacks_memory: journal.lacks_memory(),
+        account: name_or(account, path),
+        parts,
+        left: left_out,
+        has_ended,
+        has_met,
+        lacks_memory,
     }
 }
 
@@ -137,7 +148,7 @@ where
     let errors = errors_kept(&journal, reasons);
     let status = run(machine, words, out, errors);
     let past = HostPast::new(rt, machine.process, words);
-    let said = said_in(rt, words, &journal);
+    let said = said_of(journal.take(), rc_path_of(rt, words));
     tell_news(rt.alloc(), &past, &said, &mut Output::new(err));
     status
 }

@@ -137,17 +137,21 @@ fn left_out_of(
 
 /// What a run says, part by part, and how it came out. Without memory for a name or a path it stays as it was.
 #[derive(Drop)]
-struct Notes {
+pub struct Notes {
     begun: Vec<u8>,
     place: Vec<u8>,
     mark: String,
-    account: Vec<u8>,
-    parts: Vec<Part>,
+    /// The name of the account; empty if it isn't known.
+    pub account: Vec<u8>,
+    pub parts: Vec<Part>,
     too_large: Option<Vec<u32>>,
-    left_out: LeftOut,
-    has_ended: bool,
-    has_met: bool,
-    lacks_memory: bool,
+    pub left_out: LeftOut,
+    /// Whether the run came to its end.
+    pub has_ended: bool,
+    /// Whether another run had the lock.
+    pub has_met: bool,
+    /// Whether there was no memory for a part.
+    pub lacks_memory: bool,
 }
 
 impl Notes {
@@ -316,11 +320,6 @@ impl Journal {
         self.with(|notes| notes.note_account(self.alloc, settings))
     }
 
-    /// The name of the account; empty if it isn't known. It is taken out.
-    pub fn take_account(&self) -> Vec<u8> {
-        self.with(|notes| mem::replace(&mut notes.account, Vec::new(self.alloc)))
-    }
-
     /// What was said since the last part is one, if it was anything.
     pub fn close(&self, subject: Subject) {
         self.with(|notes| notes.close(self.alloc, subject))
@@ -336,19 +335,9 @@ impl Journal {
         self.with(|notes| notes.note_left_out(self.alloc, listed, limit, counts))
     }
 
-    /// What was left out. It is taken out.
-    pub fn take_left_out(&self) -> LeftOut {
-        self.with(|notes| mem::replace(&mut notes.left_out, none_left(self.alloc)))
-    }
-
     /// The run came to its end.
     pub fn note_end(&self) {
         self.with(|notes| notes.has_ended = true)
-    }
-
-    /// Whether the run came to its end.
-    pub fn has_ended(&self) -> bool {
-        self.with(|notes| notes.has_ended)
     }
 
     /// Another run had the lock.
@@ -356,20 +345,10 @@ impl Journal {
         self.with(|notes| notes.has_met = true)
     }
 
-    /// Whether another run had the lock.
-    pub fn has_met(&self) -> bool {
-        self.with(|notes| notes.has_met)
-    }
-
-    /// Whether there was no memory for a part of what was said.
-    pub fn lacks_memory(&self) -> bool {
-        self.with(|notes| notes.lacks_memory)
-    }
-
-    /// What was said. It is taken out.
-    pub fn take(&self) -> Vec<Part> {
+    /// What was said, and how it came out. It is taken out.
+    pub fn take(&self) -> Notes {
         self.close(Subject::Notice);
-        self.with(|notes| mem::replace(&mut notes.parts, Vec::new(self.alloc)))
+        self.notes.replace(Notes::new(self.alloc))
     }
 }
 

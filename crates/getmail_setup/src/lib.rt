@@ -27,7 +27,7 @@ pub use digest::digest_of;
 pub use errors::{Errors, Reasons, fail, tell_reason, warn_of_network};
 pub use failure::{Failure, OUT_OF_MEMORY, explain, failure_of, tell};
 pub use in_place::{LookAt, OnMachine, other_list};
-pub use journal::{Journal, Kept, LeftOut, Part, Subject};
+pub use journal::{Journal, Kept, LeftOut, Notes, Part, Subject};
 pub use listed::Large;
 pub use lock::{Lock, take_lock};
 pub use lock_calls::{LockCalls, SystemLocks};
