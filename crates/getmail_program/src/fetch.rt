@@ -101,8 +101,8 @@ where
     fetch_at(devices, errand, link, devices.time(), &mut out, errors)
 }
 
-/// Whether a run leaves the account to another one that has the lock since this second, or 0 if it isn't known, and says
-/// nothing of it. Only an unattended one does.
+/// Whether a run leaves the account to another one that has the lock since this second, or 0 if it isn't known, and
+/// says nothing of it. Only an unattended one does.
 fn leaves_to_other<P: Past>(past: &P, words: &Words, held: u64, journal: Option<&Journal>) -> bool
     ensures asked { result ≡ true → (words.now.unattended && not words.now.pretend) ≡ true }
     ensures leaves { LeavesToOther (P.gave past.now) (P.showed past.now) held

@@ -6,7 +6,12 @@ ghost use Rattle.std.specs.{
 };
 ghost use Rattle.getmail_setup.specs.{Failures.status_of, Places.IsRcPath};
 ghost use Rattle.system_calls.specs.declared.system.System.{System};
-ghost use Rattle.getmail_program.specs.{Fetching.Runs, News.{IsSaid, name_or}, Rehearsal.Rehearses, Starting.{LeadsTo, Starts}};
+ghost use Rattle.getmail_program.specs.{
+  Fetching.Runs,
+  News.{IsSaid, name_or},
+  Rehearsal.Rehearses,
+  Starting.{LeadsTo, Starts},
+};
 
 use crate::fetch::{Machine, is_unattended, run};
 use crate::news::{RunSaid, tell_news};

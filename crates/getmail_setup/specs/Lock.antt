@@ -22,19 +22,19 @@ use Rattle.getmail_setup.specs.{
 }
 
 -- a file was marked with the time, as far as that is known
-abbrev pub IsMarked : {L : Type 0} → CallsGhosts L → L → File → Type 0
-IsMarked ghosts calls file = (now : Option SystemTime) × ghosts.showed calls now × IfSome now (ghosts.marks calls file)
+abbrev pub MarksTime : {L : Type 0} → CallsGhosts L → L → File → Type 0
+MarksTime ghosts calls file = (now : Option SystemTime) × ghosts.showed calls now × IfSome now (ghosts.marks calls file)
 
 -- the second at which a file was marked, as it was told; 0 if it wasn't
 abbrev pub IsSince : {L : Type 0} → CallsGhosts L → L → File → ℕ → Type 0
 IsSince ghosts calls file since =
     (time : Option SystemTime) × ghosts.dated calls file time × (since ≡ second_of time)
 
--- the lock of an open file was asked for: it is held, and the file marked, only if that was granted, and another process
--- has it only if it would have to be waited for
+-- the lock of an open file was asked for: it is held, and the file marked, only if that was granted, and another
+-- process has it only if it would have to be waited for
 abbrev pub LocksOpened : {L : Type 0} → CallsGhosts L → L → File → Result Lock Denial → Type 0
 LocksOpened ghosts calls file (Ok (Held held)) =
-    (held ≡ file) × (done : Unit {0}) × ghosts.asked calls file (Ok done) × IsMarked ghosts calls file
+    (held ≡ file) × (done : Unit {0}) × ghosts.asked calls file (Ok done) × MarksTime ghosts calls file
 LocksOpened ghosts calls file (Ok (Elsewhere since)) =
     ghosts.asked calls file (Err WouldBlock) × IsSince ghosts calls file since
 LocksOpened ghosts calls file (Ok Without) = ⊥

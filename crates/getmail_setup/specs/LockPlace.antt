@@ -14,5 +14,6 @@ MayBeOpened (Err denial) = error_kind denial.error ≡ NotFound
 
 -- what else was found keeps it from being opened, with this reason
 abbrev pub Hinders : List ℕ → Result Metadata Denial → Denial → Type 0
-Hinders path (Ok found) denial = (IsFile (file_type found) → ⊥) × (error_kind denial.error ≡ Other) × IsAbout path denial
+Hinders path (Ok found) denial =
+    (IsFile (file_type found) → ⊥) × (error_kind denial.error ≡ Other) × IsAbout path denial
 Hinders path (Err fault) denial = (error_kind fault.error ≢ NotFound) × (denial ≡ fault)

@@ -5,7 +5,7 @@ ghost use Rattle.std.specs.{
   declared.fs.locks.TryLockError.TryLockError,
 };
 ghost use Rattle.getmail_setup.specs.{
-  Lock.{DoesWith, IsMarked, IsSince, LocksAt, TakesLock},
+  Lock.{DoesWith, MarksTime, IsSince, LocksAt, TakesLock},
   LockPlace.{Hinders, MayBeOpened},
 };
 
@@ -45,7 +45,7 @@ fn check(alloc: Global, path: &str, found: Result<Metadata, Denial>) -> Result<(
 /// Marks a locked file with the time, for a run that finds it locked.
 fn mark_time<L: LockCalls>(calls: &L, file: &File)
     requires { (done : Unit {0}) × L.asked calls.now file.now (Ok done) }
-    ensures { IsMarked L.LockCalls calls.now file.now }
+    ensures { MarksTime L.LockCalls calls.now file.now }
 {
     if let Some(now) = calls.now() {
         calls.futimens(file, now);
