@@ -43,8 +43,9 @@ ASSUMED = """\
    `sound self.new → sound self.old ×` before it. docs/STATEMENT.txt has the traits Wire, MaildirDisk and FlatFile with
    what their names mean, and 9 has the others. What can't be opened may come to the folders and go at any moment, so no
    clause says where such names (`closed_new`, `closed_cur`) come from. Of CallsShared it is assumed that a listing shows
-   exactly those that are there then (`ListsIn`): a message whose name is one isn't fetched. All that is above it is
-   proved to tell just these."""
+   exactly those that are there then (`ListsIn`), and that what each name led to then it leads to until it is looked at,
+   unless it is a file's that moved or went: a message whose name is one of what can't be opened isn't fetched. All that
+   is above it is proved to tell just these."""
 PREMISES = """\
 2. The premises of the other devices. What their traits say is proved, for one over another device as far as that one
    does what its trait says."""
