@@ -2,14 +2,14 @@
 use Rattle.std.specs.{
   Prelude.{◌≡◌, ◌&&◌, ℕ, Bool, true, false, List, [], ◌∷◌, Option, Some, None},
   Prelude.{bytes_eq, length, option_map, string_bytes},
-  List.find,
+  List.{filter, find},
 }
 use Rattle.mail_store.specs.declared.maildir.disk.Folder.{Folder}
-use Rattle.test_devices.specs.declared.memory_folders.StoredMail.{StoredMail}
-use Rattle.folder_store.specs.{MailFolders.{Directories, MailFile, is_told}, MailPower.IsMailLeftAs}
-use Rattle.folder_store.specs.{MailFolders.is_left, MailPower.{EntriesLeftAs, LosesMail}}
-use Rattle.std.specs.List.{filter}
-use Rattle.test_devices.specs.declared.memory_folders.FoundMail.{FoundMail}
+use Rattle.folder_store.specs.{
+  MailFolders.{Directories, MailFile, is_left, is_told},
+  MailPower.{EntriesLeftAs, IsMailLeftAs, LosesMail},
+}
+use Rattle.test_devices.specs.declared.memory_folders.{FoundMail.{FoundMail}, StoredMail.{StoredMail}}
 
 -- a file
 abbrev pub stored_file : StoredMail → MailFile

@@ -1,6 +1,6 @@
 -- The folders of a Maildir in memory, call by call.
 use Rattle.std.specs.{
-  Prelude.{◌≡◌, ℕ, Bool, false, true, List},
+  Prelude.{◌≡◌, ℕ, false, true, List},
   declared.io.ErrorKind.{ErrorKind, TheVariants.NotFound},
 }
 use Rattle.mail_terms.specs.UniqueId.{has_id}

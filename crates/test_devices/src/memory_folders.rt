@@ -1,6 +1,5 @@
 //! The folders of a Maildir in memory.
 
-ghost use Rattle.test_devices.specs.MemoryFolders.{MayBeFound, MayFind, found_file};
 ghost use Rattle.std.specs.{
   Prelude.{◌≡◌, ◌⊎◌, ◌↔◌, ◌≤◌, ◌||◌, ◌++◌, [], ◌∷◌, Contains, HoldsAt, IfNone, IfOk, IfSome, IsTrue, Ok, OnErr},
   Prelude.{OnOk, false, if◌then◌else◌, length, true, map, option_map, string_bytes},
@@ -15,7 +14,10 @@ ghost use Rattle.folder_store.specs.{
   MailFolders.{touches, unopened_in},
   MailPower.{EntriesLeftAs, IsMailLeftAs, LosesMail},
 };
-ghost use Rattle.test_devices.specs.{MemoryFolder.made_of, MemoryFolders.{list_of, size_at, stored_file}};
+ghost use Rattle.test_devices.specs.{
+  MemoryFolder.made_of,
+  MemoryFolders.{MayBeFound, MayFind, found_file, list_of, size_at, stored_file},
+};
 
 use crate::new_file::MemoryNewFile;
 use folder_store::{FolderMaildir, FoundNames, MailFolders, Sought, readers_move};
