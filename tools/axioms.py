@@ -39,13 +39,15 @@ PINS_NOTHING = re.compile(r"Tallies .*|self\.new ≡ record self\.old \{ failure
 ASSUMED = """\
 1. Devices of which nothing is known: `sound`, their premise, is ⊥. The code over them is generic, and proved for each
    device that does what its trait says. So each clause of the trait that holds only where `sound` does is assumed of
-   them, unless the call's body is in the trait: then it is proved. Each is printed without the words
-   `sound self.new → sound self.old ×` before it. docs/STATEMENT.txt has the traits Wire, MaildirDisk and FlatFile with
-   what their names mean, and 9 has the others. What can't be opened may come to the folders and go at any moment, so no
-   clause says where such names (`closed_new`, `closed_cur`) come from. Of CallsShared it is assumed that a listing shows
-   exactly those that are there then (`ListsIn`), and that what each name led to then it leads to until it is looked at,
-   unless it is a file's that moved or went: a message whose name is one of what can't be opened isn't fetched. All that
-   is above it is proved to tell just these."""
+   them, unless the call's body is in the trait: then it is proved. Each is printed without the words `sound self.new →
+   sound self.old ×` before it. The other ghost members of such a device (`tree`, `shared`, `made`, `opened`, `told`,
+   `was_free` and so on) are placeholders, as `sound` is: it is assumed that there are some for which all clauses of the
+   trait hold, also those that are proved of the placeholders. docs/STATEMENT.txt has the traits Wire, MaildirDisk and
+   FlatFile with what their names mean, and 9 has the others. What can't be opened may come to the folders and go at any
+   moment, so no clause says where such names (`closed_new`, `closed_cur`) come from. Of CallsShared it is assumed that
+   a listing shows exactly those that are there then (`ListsIn`), and that what each name led to then it leads to until
+   it is looked at, unless it is a file's that moved or went: a message whose name is one of what can't be opened isn't
+   fetched. All that is above it is proved to tell just these."""
 PREMISES = """\
 2. The premises of the other devices. What their traits say is proved, for one over another device as far as that one
    does what its trait says."""
