@@ -117,8 +117,9 @@ KeepsCut sound directory name len before after result old new = (new.name ≡ ol
     × KeepsFront (bytes_from (directory before) name len) was now)))
 
 -- `cut_keeping`: so it is unless nothing is to be kept, or the last append was refused
-abbrev pub KeepsFirst : {F : Type 0} → (CutOff F → CutOff F → Type 0) → Option (CutOff F) → Option (CutOff F) → Type 0
-KeepsFirst {F = F} Does None new = new ≡ None
-KeepsFirst {F = F} Does (Some old) new =
+abbrev pub KeepsBeforeCut : {F : Type 0} → (CutOff F → CutOff F → Type 0) → Option (CutOff F) → Option (CutOff F)
+    → Type 0
+KeepsBeforeCut {F = F} Does None new = new ≡ None
+KeepsBeforeCut {F = F} Does (Some old) new =
     ((old.is_refused ≡ true) × (new ≡ Some old))
     ⊎ ((old.is_refused ≡ false) × ((kept : CutOff F) × (new ≡ Some kept) × Does old kept))

@@ -53,7 +53,7 @@ refuses_links CrossesDevices = true
 refuses_links TooManyLinks = true
 refuses_links _ = false
 
--- EACCES, ELOOP, ENOTDIR, or a name that no file can have: a file can't be opened because of what its name stands
+-- EACCES or EPERM, ELOOP, ENOTDIR, ENAMETOOLONG: a file can't be opened because of what its name stands
 -- for, or of its rights
 abbrev pub tells_odd : ErrorKind → Bool
 tells_odd PermissionDenied = true

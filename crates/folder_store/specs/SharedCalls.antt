@@ -64,10 +64,11 @@ ListsShared folder sought (Ok listed) old new =
 ListsShared folder sought (Err d) old new =
     Did (λ old new. (new ≡ old) × (IsAbsent d → is_there old.there folder ≡ false)) old new
 
--- whether a name, when its folder was listed, wasn't that of a file; and whether it was odd
+-- whether a name wasn't that of a file when its folder was listed
 abbrev pub was_unopened : Directories → Folder → List ℕ → Bool
 was_unopened d folder name = has_id (unopened_in folder d) name
 
+-- whether a name was odd when its folder was listed
 abbrev pub was_odd : Directories → Folder → List ℕ → Bool
 was_odd d folder name = has_id (odd_names_in folder d) name
 
@@ -76,28 +77,28 @@ abbrev pub may_be_odd : FileKind → Folder → Bool
 may_be_odd Dir Cur = false
 may_be_odd _ _ = true
 
--- stat(2) of a name that was listed: it was that of a file only if it leads to one. What it says is known at the next
--- call
+-- stat(2) of a name that was listed: it was that of a file only if it leads to one. That it leads to a regular file, or
+-- how the call was refused, is known of the state after it
 abbrev pub StatsName : (file : Type 0) → (refused : ErrorKind → Type 0) → Result FileStat Denial → (unopened : Bool)
     → Type 0
 StatsName file refused (Ok stat) unopened = (stat.kind ≡ Regular → file) × (stat.kind ≢ Regular → unopened ≡ true)
 StatsName file refused (Err d) unopened = refused (error_kind d.error)
 
--- open(2) of such a name: it was that of a file if fstat(2) doesn't tell that a folder was opened
+-- open(2) of a name that was listed: it was that of a file if fstat(2) doesn't tell that a folder was opened
 abbrev pub OpensName : {H : Type 0} → (H → FileStat → Type 0) → (ErrorKind → Type 0) → Result H Denial
     → (unopened : Bool) → Type 0
 OpensName told refused (Ok file) unopened = (stat : FileStat) → told file stat → IsFolder stat ↔ (unopened ≡ true)
 OpensName told refused (Err d) unopened = refused (error_kind d.error)
 
--- lstat(2) of a name for which one of these may have been refused just before. If that was EACCES, ELOOP, ENOTDIR, or
--- that no file can have it: what has the name can't be opened. If it was ENOENT: nor can a link, which leads nowhere;
--- but if nothing has the name, that was a file's
-abbrev pub LooksUp : (ErrorKind → Type 0) → Folder → Result FileStat Denial → (unopened odd : Bool) → Type 0
-LooksUp refused folder (Ok stat) unopened odd =
+-- lstat(2) of a name that was listed, just after stat(2) or open(2) of it, which may have been refused so. If that was
+-- EACCES, ELOOP, ENOTDIR, or that no file can have it: what has the name can't be opened. If it was ENOENT: nor can a
+-- link, which leads nowhere; but if nothing has the name, that was a file's
+abbrev pub LstatsName : (ErrorKind → Type 0) → Folder → Result FileStat Denial → (unopened odd : Bool) → Type 0
+LstatsName refused folder (Ok stat) unopened odd =
     ((kind : ErrorKind) → refused kind → tells_odd kind ≡ true → unopened ≡ true)
     × (refused NotFound → (stat.kind ≡ Other) ↔ (unopened ≡ true))
     × (odd ≡ (unopened && may_be_odd stat.kind folder))
-LooksUp refused folder (Err d) unopened odd = IsAbsent d → refused NotFound → unopened ≡ false
+LstatsName refused folder (Err d) unopened odd = IsAbsent d → refused NotFound → unopened ≡ false
 
 -- link(2) of a file that was made to a name in `new`, where nothing has it. EPERM, EOPNOTSUPP, EXDEV, EMLINK: nothing
 -- was done; another refused call did it, or nothing

@@ -116,7 +116,8 @@ pub trait FileCalls {
             × Renames (Self.Made.sound file.now) (tree self.old) (Self.Made.made file.now) to.now result
             (tree self.new) };
 
-    /// unlink(2) of a file that was made. No other call is given its path, so nothing is promised.
+    /// unlink(2) of a file that was made. No other call is given its path, so none sees a change, and nothing else is
+    /// promised.
     fn unlink(&self, file: &Self::Made) -> Result<(), Denial>;
 
     /// stat(2)

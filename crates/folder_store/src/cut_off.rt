@@ -3,7 +3,7 @@
 ghost use Rattle.std.specs.Prelude.{◌≡◌, ◌<◌, ◌≤◌, ◌⊎◌, ◌-◌, ◌↔◌, ◌||◌, IsTrue, Ok, OnOk, false, true};
 ghost use Rattle.std.specs.Prelude.{is_ok, length, not, take};
 ghost use Rattle.folder_store.specs.{
-  CutOff.{BeginsWith, Copies, HasAllKept, IsKeptDurable, KeepsText, KeepsCut, KeepsFirst, MakesMissing, TellsHad},
+  CutOff.{BeginsWith, Copies, HasAllKept, IsKeptDurable, KeepsText, KeepsCut, KeepsBeforeCut, MakesMissing, TellsHad},
   CutOff.{WhereKeptSound, bytes_from, has_others},
   Sound.{WhereFileSound, WhereFilesSound},
 };
@@ -268,7 +268,7 @@ pub fn cut_keeping<F: FileFolder + Drop>(
 ) -> Result<(), StoreFault>
     ensures cuts { WhereFileSound F.sound F.directory name.now folder.old folder.new
         (λ old new. CutsDisk old len result new) }
-    ensures keeps { KeepsFirst (KeepsCut F.sound F.directory name.now len folder.old folder.new result)
+    ensures keeps { KeepsBeforeCut (KeepsCut F.sound F.directory name.now len folder.old folder.new result)
         cut_off.old cut_off.new }
 {
     match cut_off {

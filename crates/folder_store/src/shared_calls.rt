@@ -26,7 +26,7 @@ pub trait SharedCalls {
       IsSame,
       Links,
       ListsShared,
-      LooksUp,
+      LstatsName,
       OpensName,
       Shared,
       StatsFolder,
@@ -57,9 +57,9 @@ pub trait SharedCalls {
     // The premise: so far the system did what its calls promise, flushed folders when it was asked to, and others did
     // nothing but move, mark and take away files, and gave no name in `new` between lstat(2) of it and rename(2) to it.
     // Each change gives a folder another time of change, once the folder has rested for a step of the clock. Only names
-    // that the last listing of their folder told are looked at by stat(2) and open(2): what couldn't be opened then is
-    // so until they are, and nothing gets or loses a name between one of them that is refused and lstat(2) of it. If it
-    // holds after a call, it held before.
+    // that the last listing of their folder told, as ones that were sought, are looked at by stat(2) and open(2). Until
+    // the lstat(2) just after, each leads to what it led to then, unless it is a file's that moved or went. If the
+    // premise holds after a call, it held before.
     ghost sound: { Self → Type 0 };
 
     /// stat(2) of a folder.
@@ -95,7 +95,7 @@ pub trait SharedCalls {
     fn lstat(&mut self, folder: Folder, name: &str) -> Result<FileStat, Denial>
         ensures { sound self.new → sound self.old × Did IsSame (shared self.old) (shared self.new)
             × IfErr result (λ d. IsAbsent d → was_free self.new folder name.now)
-            × LooksUp (was_refused self.old folder name.now) folder result
+            × LstatsName (was_refused self.old folder name.now) folder result
             (was_unopened (shared self.old).directories folder name.now)
             (was_odd (shared self.old).directories folder name.now) };
 
