@@ -307,7 +307,7 @@ counted_among some all file stamp size among was = record {
   size = was.size;
 }
 
-unfit_among : {File : Type 0} (remaining : File → Option (List ℕ)) (found : FileWay → Found → Type 0)
+unfit_among : {File : Type 0} (remaining : File → Option (List ℕ)) (found : FileWay → Option Found → Type 0)
     (opened : FileWay → FileNumber → File → Type 0) (told : List PlacedFile → Type 0) (some all : List ListedFile)
     (file : PlacedFile) (seen : SeenFiles) → ComeFrom some all → IsUnfit remaining found opened told some file seen
     → IsUnfit remaining found opened told all file seen
@@ -319,7 +319,7 @@ unfit_among remaining found opened told some all file seen among unfit = (
   unfit.4,
 )
 
-pub passed_among : {File : Type 0} (remaining : File → Option (List ℕ)) (found : FileWay → Found → Type 0)
+pub passed_among : {File : Type 0} (remaining : File → Option (List ℕ)) (found : FileWay → Option Found → Type 0)
     (opened : FileWay → FileNumber → File → Type 0) (told : List PlacedFile → Type 0) (some all : List ListedFile)
     (file : PlacedFile) → ComeFrom some all → IsPassedOver remaining found opened told some file
     → IsPassedOver remaining found opened told all file
@@ -328,7 +328,7 @@ passed_among remaining found opened told some all file among passed = (
   ⊎_elim inl (λ unfit. inr (unfit_among remaining found opened told some all file passed.0 among unfit)) passed.1,
 )
 
-pub measured_among : {File : Type 0} (remaining : File → Option (List ℕ)) (found : FileWay → Found → Type 0)
+pub measured_among : {File : Type 0} (remaining : File → Option (List ℕ)) (found : FileWay → Option Found → Type 0)
     (opened : FileWay → FileNumber → File → Type 0) (told : List PlacedFile → Type 0) (some all : List ListedFile)
     (file : PlacedFile) (measured : Stamp × ℕ) → ComeFrom some all → IsMeasured remaining found opened told some file measured
     → IsMeasured remaining found opened told all file measured

@@ -19,7 +19,7 @@ use Rattle.folder_drop.specs.{
   Removal.{AreNamesakes, IsNamesake, IsOther, MayGo, RemovesMessage, WereCompared, if_any},
 }
 
-pub namesake_more : (found : FileWay → Found → Type 0) (listed : ListedFile) (seen : List PlacedFile) (files : List Namesake)
+pub namesake_more : (found : FileWay → Option Found → Type 0) (listed : ListedFile) (seen : List PlacedFile) (files : List Namesake)
     (from : PlacedFile) (file : Namesake) → IsNamesake found listed from (Some file) → AreNamesakes found listed seen files
     → AreNamesakes found listed (seen ++ from ∷ []) (files ++ file ∷ [])
 namesake_more found listed seen files from file is are = record {
@@ -34,7 +34,7 @@ namesake_more found listed seen files from file is are = record {
       ]) (inr (file, Contains-push files file, is));
 }
 
-pub none_more : (found : FileWay → Found → Type 0) (listed : ListedFile) (seen : List PlacedFile) (files : List Namesake)
+pub none_more : (found : FileWay → Option Found → Type 0) (listed : ListedFile) (seen : List PlacedFile) (files : List Namesake)
     (from : PlacedFile) → IsNamesake found listed from None → AreNamesakes found listed seen files
     → AreNamesakes found listed (seen ++ from ∷ []) files
 none_more found listed seen files from is are = record {
@@ -45,13 +45,13 @@ none_more found listed seen files from is are = record {
 }
 
 -- one more file was looked at
-pub looked_more : (found : FileWay → Found → Type 0) (listed : ListedFile) (seen : List PlacedFile) (files : List Namesake)
+pub looked_more : (found : FileWay → Option Found → Type 0) (listed : ListedFile) (seen : List PlacedFile) (files : List Namesake)
     (from : PlacedFile) (told : Option Namesake) → IsNamesake found listed from told → AreNamesakes found listed seen files
     → AreNamesakes found listed (seen ++ from ∷ []) (files ++ if_any told)
 looked_more found listed seen files from None is are = rw (append-nil files) (none_more found listed seen files from is are)
 looked_more found listed seen files from (Some file) is are = namesake_more found listed seen files from file is are
 
-pub none_yet : (found : FileWay → Found → Type 0) (listed : ListedFile) → AreNamesakes found listed [] []
+pub none_yet : (found : FileWay → Option Found → Type 0) (listed : ListedFile) → AreNamesakes found listed [] []
 none_yet found listed = record {
   only = λ k d within. absurd (omega (arith, within));
   each = λ k d within. absurd (omega (arith, within));
@@ -127,7 +127,7 @@ some_from n e = ⊎_elim (λ (is : n ≡ 0). absurd (false≢true (sym (subst (�
     (λ (other : n ≢ 0). omega (arith, other)) (cases_eq n 0)
 
 -- the same by what follows of the files that were seen
-pub by_those : {File : Type 0} (remaining : File → Option (List ℕ)) (found : FileWay → Found → Type 0)
+pub by_those : {File : Type 0} (remaining : File → Option (List ℕ)) (found : FileWay → Option Found → Type 0)
     (opened : FileWay → FileNumber → File → Type 0) (removed : FileWay → FileNumber → Type 0)
     (were other : List PlacedFile → Type 0) (listed : ListedFile) (told : Option TwoMessages)
     → ((from : List PlacedFile) → were from → other from)

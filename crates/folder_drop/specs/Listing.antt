@@ -17,7 +17,7 @@ use Rattle.folder_drop.specs.{
   },
   CountedSizes.WasCounted,
   Finding.{IsLeftOut, IsSizeNow, TellsStamp},
-  Places.base_of_file,
+  Places.{base_of_file, folder_and_name},
   MaildirNames.{digest_length, IsIdKey, id_of},
   RealMaildir.{AreAscending, IsBefore, id_of_name, listed_names},
 }
@@ -89,13 +89,13 @@ pub record MayBeListed {Z S : Type 0} (seen : HashSet (Vec ℕ Z) S) (files : Li
 
 -- a regular file that was found had this length and time of change, and has this size: as it was counted before, or as
 -- it was read
-pub record IsMeasured {File : Type 0} (remaining : File → Option (List ℕ)) (found : FileWay → Found → Type 0)
+pub record IsMeasured {File : Type 0} (remaining : File → Option (List ℕ)) (found : FileWay → Option Found → Type 0)
     (opened : FileWay → FileNumber → File → Type 0) (told : List PlacedFile → Type 0) (earlier : List ListedFile)
     (file : PlacedFile) (measured : Stamp × ℕ) : Type 0 where
   pub seen : SeenFiles
-  pub stamp : TellsStamp found told seen (base_of_file file) (Some measured.0)
+  pub stamp : TellsStamp found told seen (folder_and_name file) (Some measured.0)
   pub size : WasCounted earlier file measured.0 measured.1
-      ⊎ IsSizeNow remaining found opened (base_of_file file) measured.1
+      ⊎ IsSizeNow remaining found opened (folder_and_name file) measured.1
 
 -- a listed file is one of those that were found, measured so
 pub record ListsFound (IsSo : PlacedFile → Stamp × ℕ → Type 0) (found : List PlacedFile) (listed : ListedFile)
@@ -107,19 +107,19 @@ pub record ListsFound (IsSo : PlacedFile → Stamp × ℕ → Type 0) (found : L
   pub measured : IsSo file (listed.stamp, listed.size)
 
 -- a regular file that was found is gone or above the limit, by its stamp and the size that was counted for it, or read
-abbrev pub IsUnfit : {File : Type 0} → (File → Option (List ℕ)) → (FileWay → Found → Type 0)
+abbrev pub IsUnfit : {File : Type 0} → (File → Option (List ℕ)) → (FileWay → Option Found → Type 0)
     → (FileWay → FileNumber → File → Type 0) → (List PlacedFile → Type 0) → List ListedFile → PlacedFile → SeenFiles
     → Type 0
 IsUnfit remaining found opened told earlier file seen = (stamp : Stamp) × (known : Option ℕ)
-    × ((then : SeenFiles) × TellsStamp found told then (base_of_file file) (Some stamp))
+    × ((then : SeenFiles) × TellsStamp found told then (folder_and_name file) (Some stamp))
     × IfSome known (WasCounted earlier file stamp)
-    × IsLeftOut remaining found opened told seen (base_of_file file) (stamp, known)
+    × IsLeftOut remaining found opened told seen (folder_and_name file) (stamp, known)
 
 -- what was found is no message: it is that, or no regular file
-abbrev pub IsPassedOver : {File : Type 0} → (File → Option (List ℕ)) → (FileWay → Found → Type 0)
+abbrev pub IsPassedOver : {File : Type 0} → (File → Option (List ℕ)) → (FileWay → Option Found → Type 0)
     → (FileWay → FileNumber → File → Type 0) → (List PlacedFile → Type 0) → List ListedFile → PlacedFile → Type 0
 IsPassedOver remaining found opened told earlier file = (seen : SeenFiles)
-    × (TellsStamp found told seen (base_of_file file) None ⊎ IsUnfit remaining found opened told earlier file seen)
+    × (TellsStamp found told seen (folder_and_name file) None ⊎ IsUnfit remaining found opened told earlier file seen)
 
 -- a message of the id of a file that was found is listed; or as many are as may be, or it is no message
 abbrev pub IsAccountedFor : (PlacedFile → Type 0) → List ListedFile → PlacedFile → Type 0

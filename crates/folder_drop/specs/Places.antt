@@ -1,15 +1,15 @@
 -- The order of the files of a Maildir, which is that of messages.
 use Rattle.std.specs.{
-  Prelude.{ℕ, List, String, map, string_bytes},
+  Prelude.{◌≡◌, ℕ, List, String, map, string_bytes},
   Cmp.Lexicographic.slice_cmp,
   List.Sorted.IsSorted,
   Ordering.{nat_cmp, on, then_cmp},
   declared.cmp.Ordering.Ordering,
 }
 use Rattle.mail_terms.specs.MaildirName.{base}
-use Rattle.folder_drop.specs.declared.maildir_names.{
-  Folder.{Folder, TheVariants.{Cur, New}},
-  PlacedFile.PlacedFile,
+use Rattle.folder_drop.specs.declared.{
+  mail_files.FileWay.FileWay,
+  maildir_names.{Folder.{Folder, TheVariants.{Cur, New}}, PlacedFile.PlacedFile},
 }
 
 abbrev pub name_of_file : PlacedFile → List ℕ
@@ -21,6 +21,10 @@ base_of_file file = base (name_of_file file)
 -- the folder and the name of a file
 abbrev pub folder_and_name : PlacedFile → Folder × List ℕ
 folder_and_name file = (file.folder, name_of_file file)
+
+-- the name leads to this place
+abbrev pub IsWayTo : FileWay → Folder × List ℕ → Type 0
+IsWayTo way place = (way.folder ≡ place.0) × (string_bytes way.name ≡ place.1)
 
 -- `cur` comes before `new`
 abbrev pub rank : Folder → ℕ

@@ -5,7 +5,10 @@ use Rattle.std.specs.{
   Ordering.nat_cmp,
   declared.cmp.Ordering.TheVariants.Less,
 }
-use Rattle.folder_drop.specs.{declared.listed_file.ListedFile.ListedFile, MaildirNames.id_of}
+use Rattle.folder_drop.specs.{
+  declared.{listed_file.ListedFile.ListedFile, maildir_names.Folder.Folder},
+  MaildirNames.id_of,
+}
 use Rattle.pop3_server.specs.{declared.maildrop.DropFault.DropFault, Maildrop.{ListedMessage, DropMail}}
 use Rattle.mail_terms.specs.MaildirName.{base}
 
@@ -22,6 +25,9 @@ mail_of maildir = record { slots = []; failures = maildir.failures; removals = m
 
 abbrev pub listed_name : ListedFile → List ℕ
 listed_name file = string_bytes file.name
+
+abbrev pub listed_place : ListedFile → Folder × List ℕ
+listed_place file = (file.folder, listed_name file)
 
 abbrev pub listed_names : List ListedFile → List (List ℕ)
 listed_names files = map listed_name files

@@ -58,17 +58,17 @@ LeadsToPlace way file = (way.folder ≡ file.folder) × (string_bytes way.name �
 
 -- a file that was seen with a message's base was found there: a regular file, or else nothing that may be removed, not
 -- in the message's own place
-abbrev pub IsNamesake : (FileWay → Found → Type 0) → ListedFile → PlacedFile → Option Namesake → Type 0
+abbrev pub IsNamesake : (FileWay → Option Found → Type 0) → ListedFile → PlacedFile → Option Namesake → Type 0
 IsNamesake found listed seen (Some file) = LeadsToPlace file.file seen
     × (IsTrue file.is_in_place ↔ IsPlaceOf listed seen)
-    × ((what : Found) × found file.file what × (what.is_regular ≡ true) × (file.number ≡ what.number)
+    × ((what : Found) × found file.file (Some what) × (what.is_regular ≡ true) × (file.number ≡ what.number)
     × (file.stamp ≡ what.stamp))
 IsNamesake found listed seen None = (way : FileWay) × (other : Found) × LeadsToPlace way seen
-    × found way other × (other.is_regular ≡ false) × (IsPlaceOf listed seen → ⊥)
+    × found way (Some other) × (other.is_regular ≡ false) × (IsPlaceOf listed seen → ⊥)
 
 -- of the files that were seen with a message's base, these are the regular ones, as they were found: each of these is
 -- one of them, and each of them is there or is nothing that may be removed
-pub record AreNamesakes (found : FileWay → Found → Type 0) (listed : ListedFile) (seen : List PlacedFile)
+pub record AreNamesakes (found : FileWay → Option Found → Type 0) (listed : ListedFile) (seen : List PlacedFile)
     (files : List Namesake) : Type 0 where
   pub only : All (λ (file : Namesake). (from : PlacedFile) × Contains seen from
       × IsNamesake found listed from (Some file)) files
@@ -118,7 +118,7 @@ TellsInstead files (Some two) = (other : Namesake) × Contains files other
 
 -- the files that were seen with a message's base were looked at; if the listed one is among them, all of them went with
 -- it, or one is another message; else one of them is told
-pub record RemovesSeen {File : Type 0} (remaining : File → Option (List ℕ)) (found : FileWay → Found → Type 0)
+pub record RemovesSeen {File : Type 0} (remaining : File → Option (List ℕ)) (found : FileWay → Option Found → Type 0)
     (opened : FileWay → FileNumber → File → Type 0) (removed : FileWay → FileNumber → Type 0) (listed : ListedFile)
     (seen : List PlacedFile) (told : Option TwoMessages) : Type 0 where
   pub files : List Namesake
@@ -128,7 +128,7 @@ pub record RemovesSeen {File : Type 0} (remaining : File → Option (List ℕ)) 
       ⊎ (NoneIsListed files listed.stamp × TellsInstead files told)
 
 -- a listed message is removed, or isn't, with those of the files of a look that have its base
-pub record RemovesMessage {File : Type 0} (remaining : File → Option (List ℕ)) (found : FileWay → Found → Type 0)
+pub record RemovesMessage {File : Type 0} (remaining : File → Option (List ℕ)) (found : FileWay → Option Found → Type 0)
     (opened : FileWay → FileNumber → File → Type 0) (removed : FileWay → FileNumber → Type 0)
     (were_seen : List PlacedFile → Type 0) (listed : ListedFile) (told : Option TwoMessages) : Type 0 where
   pub from : List PlacedFile

@@ -4,7 +4,7 @@ ghost use Rattle.std.specs.Prelude.{◌≡◌, ◌≤◌, ◌<◌, ◌⊎◌, If
 ghost use Rattle.mail_terms.specs.MaildirName.{base as base_of};
 ghost use Rattle.folder_drop.specs.{
   Finding.{IsFoundNow, IsGone, IsLeftOut, IsOpenNow, IsSizeNow, TellsStamp},
-  Places.base_of_file,
+  Places.{base_of_file, folder_and_name},
 };
 
 use crate::listed_file::count_size;
@@ -58,23 +58,35 @@ fn place_now<D: MailFiles>(
     Ok(Some((file.folder, name)))
 }
 
+/// What bears a name. None if nothing does.
+fn bearer<D: MailFiles>(files: &D, file: &FileWay) -> io::Result<Option<Found>>
+    ensures { IfOk result (D.found files.now file.now) }
+{
+    match files.look_up(file) {
+        Ok(found) => Ok(Some(found)),
+        Err(error) if error.kind() == ErrorKind::NotFound => Ok(None),
+        Err(error) => Err(error),
+    }
+}
+
 /// The name under which a message's file is now, and what it is. None if no file has its base.
 fn find<D: MailFiles>(
     files: &D,
     seen: &mut SeenFiles,
     place: (Folder, &str),
 ) -> io::Result<Option<(FileWay, Found)>>
-    ensures there { IfOk result (λ now. IfSome now (IsFoundNow (D.found files.now) (base_of place.entry.1.now))) }
+    ensures there { IfOk result (λ now. IfSome now
+        (IsFoundNow (D.found files.now) (place.entry.0, place.entry.1.now))) }
     ensures gone { IfOk result (λ now. IfNone now (IsGone (D.told files.now) seen.new (base_of place.entry.1.now))) }
 {
     let mut folder = place.0;
     let mut name = String::from_str(files.alloc(), place.1)?;
     for _ in 0..MOST_TRIES {
         let file = files.way(folder, name.as_str())?;
-        match files.look_up(&file) {
-            Ok(found) => return Ok(Some((file, found))),
-            Err(error) if error.kind() == ErrorKind::NotFound => {}
-            Err(error) => return Err(error),
+        let bearer = bearer(files, &file)?;
+        match bearer {
+            Some(found) => return Ok(Some((file, found))),
+            None => {}
         }
         match place_now(files, seen, (folder, name.as_str()))? {
             Some(now) => (folder, name) = now,
@@ -90,7 +102,7 @@ pub fn stamp<D: MailFiles>(
     seen: &mut SeenFiles,
     file: &PlacedFile,
 ) -> io::Result<Option<Stamp>>
-    ensures { IfOk result (TellsStamp (D.found files.now) (D.told files.now) seen.new (base_of_file file.now)) }
+    ensures { IfOk result (TellsStamp (D.found files.now) (D.told files.now) seen.new (folder_and_name file.now)) }
 {
     let Some((_, found)) = find(files, seen, (file.folder, file.name.as_str()))? else {
         return Ok(None);
@@ -109,7 +121,7 @@ pub fn open<D: MailFiles>(
     name: &str,
 ) -> io::Result<Option<D::File>>
     ensures there { IfOk result (λ opened. IfSome opened (IsOpenNow (D.found files.now) (D.opened files.now)
-        (base_of name.now))) }
+        (folder, name.now))) }
     ensures gone { IfOk result (λ opened. IfNone opened (IsGone (D.told files.now) seen.new (base_of name.now))) }
 {
     for _ in 0..MOST_TRIES {
@@ -137,7 +149,7 @@ fn size<D: MailFiles>(
 ) -> io::Result<Option<u64>>
     requires { 0 < length piece.old }
     ensures there { IfOk result (λ told. IfSome told
-        (IsSizeNow D.File.remaining (D.found files.now) (D.opened files.now) (base_of_file file.now))) }
+        (IsSizeNow D.File.remaining (D.found files.now) (D.opened files.now) (folder_and_name file.now))) }
     ensures gone { IfOk result (λ told. IfNone told (IsGone (D.told files.now) seen.new (base_of_file file.now))) }
 {
     match open(files, seen, file.folder, file.name.as_str())? {
@@ -156,11 +168,11 @@ pub fn size_within<D: MailFiles>(
     piece: &mut [u8],
 ) -> io::Result<Option<u64>>
     requires { 0 < length piece.old }
-    ensures within { IfOk result (λ told. IfSome told (λ size. size ≤ MAX_SIZE)) }
+    ensures within { IfOk result (λ told. IfSome told (λ size. (counted.0.length ≤ MAX_SIZE) × (size ≤ MAX_SIZE))) }
     ensures there { IfOk result (λ told. IfSome told (λ size. (counted.1 ≡ Some size)
-        ⊎ IsSizeNow D.File.remaining (D.found files.now) (D.opened files.now) (base_of_file file.now) size)) }
+        ⊎ IsSizeNow D.File.remaining (D.found files.now) (D.opened files.now) (folder_and_name file.now) size)) }
     ensures none { IfOk result (λ told. IfNone told (IsLeftOut D.File.remaining (D.found files.now) (D.opened files.now)
-        (D.told files.now) seen.new (base_of_file file.now) counted)) }
+        (D.told files.now) seen.new (folder_and_name file.now) counted)) }
 {
     let (stamp, known) = counted;
     // The size is at least the length.

@@ -73,9 +73,10 @@ pub struct FileWay {
 /// The files in `new` and `cur` of a Maildir. Others put files there, move them and take them away at any moment: each
 /// answer is only of the moment of its call.
 pub trait MailFiles {
-    ghost use Rattle.std.specs.Prelude.{◌≡◌, ℕ, List, IfOk, string_bytes};
+    ghost use Rattle.std.specs.Prelude.{◌≡◌, ℕ, List, Option, IfOk, string_bytes};
     ghost use Rattle.folder_drop.specs.{
       declared.{mail_files.{FileNumber.FileNumber, FileWay.FileWay, Found.Found}, maildir_names.PlacedFile.PlacedFile},
+      Finding.LooksUp,
       Places.AreInOrder,
       Removal.MayGo,
     };
@@ -85,8 +86,8 @@ pub trait MailFiles {
     // It answered that the folders had these files.
     ghost told: { Self → List PlacedFile → Type 0 };
 
-    // It answered that this bears a name.
-    ghost found: { Self → FileWay → Found → Type 0 };
+    // It answered that this bears a name, or that nothing does.
+    ghost found: { Self → FileWay → Option Found → Type 0 };
 
     // It opened the regular file of this number under a name, to be read so.
     ghost opened: { Self → FileWay → FileNumber → Self.File → Type 0 };
@@ -108,7 +109,7 @@ pub trait MailFiles {
 
     /// What bears a name. NotFound if nothing does.
     fn look_up(&self, file: &FileWay) -> io::Result<Found>
-        ensures { IfOk result (found self.now file.now) };
+        ensures { LooksUp (found self.now file.now) result };
 
     /// Opens the regular file of this number. NotFound if something else has its name by now.
     fn open(&self, file: &FileWay, number: FileNumber) -> io::Result<Self::File>

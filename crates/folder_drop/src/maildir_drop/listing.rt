@@ -32,7 +32,7 @@ fn measure<D: MailFiles>(
     piece: &mut [u8],
 ) -> io::Result<Option<(Stamp, u64)>>
     requires { 0 < length piece.old }
-    ensures within { IfOk result (λ told. IfSome told (λ it. it.1 ≤ MAX_SIZE)) }
+    ensures within { IfOk result (λ told. IfSome told (λ it. (it.0.length ≤ MAX_SIZE) × (it.1 ≤ MAX_SIZE))) }
     ensures some { IfOk result (λ told. IfSome told (IsMeasured D.File.remaining (D.found files.now)
         (D.opened files.now) (D.told files.now) counted.old.files.now file.now)) }
     ensures none { IfOk result (λ told. IfNone told (IsPassedOver D.File.remaining (D.found files.now)

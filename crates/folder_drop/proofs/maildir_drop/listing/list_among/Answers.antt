@@ -114,7 +114,8 @@ loop-file-preserved g c =
     let named : c.base-base.result.now ≡ base (listed_name new) = c.base-base.ensures ∙ sym is_base in
     let within = rw c.in-Some-2.is at c.in_ok-measured.ensures.within in
     let sized = ap (λ (f : ListedFile). f.size) c.of.ensures in
-    let small : new.size ≤ max_size = omega (arith, within, sized) in (
+    let fits = within.1 in
+    let small : new.size ≤ max_size = omega (arith, fits, sized) in (
       c.in_ok-add.ensures.listed (record {
         behind = subst (λ name. FollowsLast files name) named (c.if-not-is_behind.ensures.behind refl);
         is_key = subst (λ name. IsIdKey c.in_ok-long_id.long_id (id_of name)) (c.as_bytes.ensures.value ∙ named)
