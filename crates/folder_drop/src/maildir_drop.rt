@@ -172,11 +172,17 @@ impl<'a, R: Files + Clock + RandomSource + AllocGlobal + Clone + Drop> Maildrop
         if self.failures.is_full() {
             return Err(DropFault::Refused);
         }
+        // A message that the last listing left out may have the id of one that was removed.
+        if self.last_seen.are_removed() {
+            self.failures.count_up();
+            return Err(DropFault::Refused);
+        }
         let mut last_seen = SeenFiles::none();
         let _ = self.system.refusals.take();
         match self.list_messages(&mut last_seen) {
             Ok(entries) => {
                 self.last_seen = last_seen;
+                self.open = None;
                 Ok(entries)
             }
             Err(error) => {

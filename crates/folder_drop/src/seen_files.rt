@@ -90,6 +90,13 @@ impl SeenFiles {
         self.with_base(base).first()
     }
 
+    /// Whether the removals of a session have begun.
+    pub fn are_removed(&self) -> bool
+        ensures { result ≡ self.now.are_removed }
+    {
+        self.are_removed
+    }
+
     /// Forgets what was seen before the removals of a session: one look is enough for all of them. Returns whether
     /// they only begin now.
     pub fn begin_removals(&mut self) -> bool
