@@ -111,6 +111,22 @@ class OtherHands(Devices):
         self.server.meanwhile = lambda command: None
         self.check_completed()
 
+    def test_a_record_that_is_replaced_meanwhile(self):
+        """Nothing is appended to a file that has no name any more."""
+        def replace(command):
+            if command == "RETR 2":
+                copy = self.account.home / "copy"
+                copy.write_bytes(self.account.record.read_bytes())
+                copy.rename(self.account.record)
+
+        self.meddle(replace)
+        run, commands = self.session("-d")
+        self.assertEqual((run, commands), (RECORD_REFUSED, ["RETR 1", "DELE 1", "RETR 2", "RSET", "QUIT"]))
+        self.assertEqual(self.server.messages, THREE)
+        self.assertEqual(self.account.held(), THREE[:2])
+        self.server.meanwhile = lambda command: None
+        self.check_completed()
+
     def test_a_file_that_is_put_there_meanwhile(self):
         """A file of the message's own name isn't overwritten."""
         def put(command):
