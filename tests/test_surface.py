@@ -52,8 +52,11 @@ class Crates:
         if kind == "struct":
             members = re.findall(r"^    pub (\w+):", found[1], re.MULTILINE)
         others = re.findall(rf"^pub type (\w+)\b[^\n]* = {name}\b", source, re.MULTILINE)
+        meant = rf"\b({'|'.join([name, *others])})\b"
+        if kind == "type":
+            meant = re.escape(re.search(rf"^pub type {name}\b[^=]* = ([^;]+);", source, re.MULTILINE)[1])
         for head, block in re.findall(r"^impl\b([^\n{]*)(.*?)^\}$", source, re.MULTILINE | re.DOTALL):
-            if " for " not in head and re.search(rf"\b({'|'.join([name, *others])})\b", head):
+            if " for " not in head and re.search(meant, head):
                 members += re.findall(r"^    pub (?:const )?fn (\w+)", block, re.MULTILINE)
         return members
 

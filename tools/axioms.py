@@ -27,6 +27,7 @@ TRAIT = re.compile(r"^(?:pub(?:\(crate\))? )?trait (\w+)(?:<[^>]*>)?(?:: ([^{;]*
 HANDLE = re.compile(r"\b(Threads|Wait|Net|Processes)\b[<+ ]")
 NAMES_PREMISE = re.compile(r"\bsound\b")
 GHOST = re.compile(r"\bghost (\w+):")
+MEMBER = re.compile(r"\bghost (\w+): \{")
 OPEN = re.compile(r"\bghost (\w+) = \{ λ[ _]*\. Unit \{0\} \};")
 # Traits of std whose calls do what the impl says by this member, if it gives it.
 STATED = {"Display": "output", "From": "from_gives"}
@@ -39,15 +40,16 @@ PINS_NOTHING = re.compile(r"Tallies .*|self\.new ≡ record self\.old \{ failure
 ASSUMED = """\
 1. Devices of which nothing is known: `sound`, their premise, is ⊥. The code over them is generic, and proved for each
    device that does what its trait says. So each clause of the trait that holds only where `sound` does is assumed of
-   them, unless the call's body is in the trait: then it is proved. Each is printed without the words `sound self.new →
-   sound self.old ×` before it. The other ghost members of such a device (`tree`, `shared`, `made`, `opened`, `told`,
-   `was_free` and so on) are placeholders, as `sound` is: it is assumed that there are some for which all clauses of the
-   trait hold, also those that are proved of the placeholders. docs/STATEMENT.txt has the traits Wire, MaildirDisk and
-   FlatFile with what their names mean, and 9 has the others. What can't be opened may come to the folders and go at any
-   moment, so no clause says where such names (`closed_new`, `closed_cur`) come from. Of CallsShared it is assumed that
-   a listing shows exactly those that are there then (`ListsIn`), and that what each name led to then it leads to until
-   it is looked at, unless it is a file's that moved or went: a message whose name is one of what can't be opened isn't
-   fetched. All that is above it is proved to tell just these."""
+   them, unless the call's body is in the trait: then it is proved. Each is printed without the words `sound self.new
+   → sound self.old ×` before it. A law of the trait under that premise is assumed too. The other ghost members of
+   such a device (`tree`, `shared`, `made`, `opened`, `told`, `was_free` and so on) are placeholders, as `sound` is:
+   it is assumed that there are some for which all clauses of the trait hold, also those that are proved of the
+   placeholders. docs/STATEMENT.txt has the traits Wire, MaildirDisk and FlatFile with what their names mean, and 9
+   has the others. What can't be opened may come to the folders and go at any moment, so no clause says where such
+   names (`closed_new`, `closed_cur`) come from. Of CallsShared it is assumed that a listing shows exactly those that
+   are there then (`ListsIn`), and that what each name led to then it leads to until it is looked at, unless it is a
+   file's that moved or went: a message whose name is one of what can't be opened isn't fetched. All that is above it
+   is proved to tell just these."""
 PREMISES = """\
 2. The premises of the other devices. What their traits say is proved, for one over another device as far as that one
    does what its trait says."""
@@ -83,10 +85,10 @@ UNCOVERED = """\
 
 BELOW = Part("The other traits", """\
 9. The traits of which 1 assumes clauses, beside those in docs/STATEMENT.txt: of single calls of the system, over which
-   the real files are made, of the folders over which the real Maildir is, and of a server's maildrop. Each name that
-   docs/STATEMENT.txt doesn't have is explained before it is used.""",
+   the real files are made, of the folders over which the real Maildir is, and of the calls over which a server's
+   maildrop is. Each name that docs/STATEMENT.txt doesn't have is explained before it is used.""",
              traits=("folder_store:MadeHandle", "folder_store:OpenHandle", "folder_store:FileCalls",
-                     "folder_store:SharedCalls", "pop3_server:Maildrop"))
+                     "folder_store:SharedCalls", "folder_drop:MailFiles"))
 
 
 class Function(NamedTuple):
@@ -156,6 +158,14 @@ def functions_in(text):
     return [function_at(text, found) for found in FUNCTION.finditer(text)]
 
 
+def laws_in(body):
+    """The laws of a trait that hold only where its premise does: the name and the text of each."""
+    for found in MEMBER.finditer(body):
+        law = one_line(braced(body, found.end() - 1))
+        if found[1] != "sound" and NAMES_PREMISE.search(law):
+            yield found[1], law
+
+
 def impls_in(text):
     for found in re.finditer(r"^impl(?:<[^{]*?>)?\s+(\w+)(?:<[^{]*?>)?\s+for\s+(\w+)[^{]*\{", text, re.MULTILINE):
         body = braced(text, found.end() - 1)
@@ -173,6 +183,7 @@ class Programs:
         bodies = {found[1]: braced(text, found.end() - 1) for found, text in traits}
         self.traits = {name: functions_in(body + "\n") for name, body in bodies.items()}
         self.ghosts = {name: set(GHOST.findall(body)) for name, body in bodies.items()}
+        self.laws = {name: list(laws_in(body)) for name, body in bodies.items()}
         self.above = {found[1]: re.findall(r"\w+", found[2] or "") for found, _ in traits}
         self.impls = {(impl.type, impl.trait): impl for text in self.files.values() for impl in impls_in(text)}
         specs = [(crate, f"specs/{file.name}") for crate in crates
@@ -254,8 +265,10 @@ def assumptions(programs):
         clauses = list(programs.clauses(impl))
         mine = [clause[:3] for clause in clauses if NAMES_PREMISE.search(clause[2]) and not clause[3]]
         rest = len(clauses) - len(mine)
-        yield from ("", f"{impl.type}, a {impl.trait} ({place}): {len(mine)} clauses are assumed, {rest} are proved")
-        for call, label, text in mine:
+        laws = programs.laws[impl.trait]
+        with_laws = f" and {len(laws)} laws" if laws else ""
+        yield from ("", f"{impl.type}, a {impl.trait} ({place}): {len(mine)} clauses{with_laws} are assumed, {rest} are proved")
+        for call, label, text in [*mine, *(("law", name, law) for name, law in laws)]:
             number += 1
             yield f"  {number:2}  {call + (' ' + label if label else ''):20} {text.replace('Self.', '').removeprefix(WHERE_SOUND)}"
 

@@ -12,7 +12,7 @@ from pathlib import Path
 from typing import NamedTuple
 
 TOP = Path(__file__).resolve().parent.parent
-USE = re.compile(r"^\s*(?:ghost )?use Rattle\.([^{;\n]*\{\n.*?^\s*\}|[^;\n]*)", re.MULTILINE | re.DOTALL)
+USE = re.compile(r"^( *)(?:ghost )?use Rattle\.([^{;\n]*\{\n.*?^\1\}|[^;\n]*)", re.MULTILINE | re.DOTALL)
 BEGINS = re.compile(r"(?:(?:pub|opaque|unfoldable) )*(?:abbrev|def|data|record) (?:pub )?(\S+)"
                     r"|(?:(?:pub|opaque|unfoldable) )+(\S+) :")
 MEMBERS = re.compile(r"pub (?:struct|enum) .*{$")
@@ -60,7 +60,7 @@ def paths_in(tree):
 def uses_in(text):
     """What each name that a `use` brings stands for: a crate, a module and the name there, which is empty for a module."""
     uses = {}
-    for tree in USE.findall(text):
+    for _, tree in USE.findall(text):
         for path in paths_in(tree):
             path, _, other = path.partition(" as ")
             crate, _, path = path.partition(".")
@@ -103,7 +103,17 @@ def with_comments(lines, first, last):
     """The lines of an item with the comments before it, without attributes and imports."""
     while first > 0 and lines[first - 1].startswith(("///", "#[")):
         first -= 1
-    return [line for line in lines[first:last + 1] if not line.lstrip().startswith(("#[", "ghost use"))]
+    return list(without_imports(line for line in lines[first:last + 1] if not line.lstrip().startswith("#[")))
+
+
+def without_imports(lines):
+    """These lines without ghost imports, each of which may be several lines long."""
+    is_import = False
+    for line in lines:
+        is_import = is_import or line.lstrip().startswith("ghost use")
+        if not is_import:
+            yield line
+        is_import = is_import and not line.rstrip().endswith(";")
 
 
 def item_at(lines, first):

@@ -1,5 +1,15 @@
 mod DigestLemmas
+mod DropLemmas
+mod FilesDropLemmas
+mod KnownLemmas
+mod ListingLemmas
 mod MaildirLemmas
+mod MailLemmas
+mod MeasureLemmas
+mod MemoryLemmas
 mod RemovalLemmas
 mod SameOctetsLemmas
 mod SeenLemmas
+mod SlotLemmas
+mod TakenLemmas
+mod TextLemmas

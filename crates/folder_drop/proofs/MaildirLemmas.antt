@@ -56,7 +56,7 @@ same_base a b e other =
 
 -- ---- the order of bases
 
-before_differs : (a b : List ℕ) → IsBefore a b → a ≢ b
+pub before_differs : (a b : List ℕ) → IsBefore a b → a ≢ b
 before_differs a b h e =
     let itself : slice_cmp nat_cmp a a ≡ Less = subst (λ (x : List ℕ). slice_cmp nat_cmp a x ≡ Less) (sym e) h in
     let back : Less ≡ ordering_reverse Less = sym itself ∙ nat_list_cmp_total.antisymm a a ∙ ap ordering_reverse itself in
@@ -89,7 +89,7 @@ id_at files k d fits =
     get_or-map id_of_name (listed_names files) k d d within ∙ sym (ap id_of (get_or-map base (listed_names files) k d d within))
 
 -- no listed file has the id of the next one
-next_id_new : {Z S : Type 0} (seen : HashSet (Vec ℕ Z) S) (files : List ListedFile) (key : Option (Vec ℕ Z)) (name : List ℕ)
+pub next_id_new : {Z S : Type 0} (seen : HashSet (Vec ℕ Z) S) (files : List ListedFile) (key : Option (Vec ℕ Z)) (name : List ℕ)
     → AreListed seen files → MayBeListed seen files key name → (k : ℕ) (d : List ℕ) → k < length (map id_of_name (listed_names files))
     → get_or (map id_of_name (listed_names files)) k d ≢ id_of name
 next_id_new seen files None name listed next k d within same =
@@ -283,7 +283,7 @@ no_last_file files none = λ some. absurd (omega (arith, subst (λ (f : List Lis
 -- ---- what was found, one by one
 
 -- what a list gave and what it still has
-taken_front : {A Z : Type 0} (s : IntoIter A Z) (xs : List A) (t : IntoIter A Z) → Yields into_iter_steps s xs t
+pub taken_front : {A Z : Type 0} (s : IntoIter A Z) (xs : List A) (t : IntoIter A Z) → Yields into_iter_steps s xs t
     → into_iter_items s ≡ xs ++ into_iter_items t
 taken_front s [] t given = ap into_iter_items given
 taken_front s (x ∷ xs) t given = given.1.0 ∙ ap (λ ys. x ∷ ys) (taken_front given.0 xs t given.2)

@@ -1,8 +1,12 @@
 pub mod CountedSizes
+pub mod FilesMail
 pub mod Finding
 pub mod FoldersLook
 pub mod Listing
+pub mod MailFiles
+pub mod MaildirMail
 pub mod MaildirNames
+pub mod MemoryFiles
 pub mod OpenFolder
 pub mod OpenText
 pub mod Places

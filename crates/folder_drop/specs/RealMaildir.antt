@@ -1,6 +1,6 @@
--- A Maildir in a real folder: what is known of it, whatever the folder does.
+-- The names of the files of a listing, and the ids of their messages.
 use Rattle.std.specs.{
-  Prelude.{◌≡◌, ℕ, List, [], AllPairs, map, string_bytes, Result, Ok, Err, Vec},
+  Prelude.{◌≡◌, ℕ, List, AllPairs, map, string_bytes},
   Cmp.Lexicographic.slice_cmp,
   Ordering.nat_cmp,
   declared.cmp.Ordering.TheVariants.Less,
@@ -9,19 +9,8 @@ use Rattle.folder_drop.specs.{
   declared.{listed_file.ListedFile.ListedFile, maildir_names.Folder.Folder},
   MaildirNames.id_of,
 }
-use Rattle.pop3_server.specs.{declared.maildrop.DropFault.DropFault, Maildrop.{ListedMessage, DropMail}}
+use Rattle.pop3_server.specs.Maildrop.{ListedMessage}
 use Rattle.mail_terms.specs.MaildirName.{base}
-
--- its path; the names of the files of the last listing that succeeded, by their places; and the two counts
-pub record RealMaildir : Type 0 where
-  pub path : List ℕ
-  pub names : List (List ℕ)
-  pub failures : ℕ
-  pub removals : ℕ
-
--- as a maildrop: nothing is known of its messages
-abbrev pub mail_of : RealMaildir → DropMail
-mail_of maildir = record { slots = []; failures = maildir.failures; removals = maildir.removals }
 
 abbrev pub listed_name : ListedFile → List ℕ
 listed_name file = string_bytes file.name
@@ -49,8 +38,3 @@ IsBefore a b = slice_cmp nat_cmp a b ≡ Less
 -- the names are in the order of their bases
 abbrev pub AreAscending : List (List ℕ) → Type 0
 AreAscending names = AllPairs IsBefore (map base names)
-
--- each place has the id of its file's name, in the order of bases; after a fault each place has the file that it had
-abbrev pub ListsNames : {Z : Type 0} → RealMaildir → Result (Vec ListedMessage Z) DropFault → RealMaildir → Type 0
-ListsNames old (Ok entries) new = HaveIds entries.items new.names × AreAscending new.names
-ListsNames old (Err fault) new = new.names ≡ old.names

@@ -1,6 +1,7 @@
 -- Which files are removed with a message: all with its base, if each is the listed file or has its octets; else none.
 use Rattle.std.specs.{
   Prelude.{◌≡◌, ◌≢◌, ◌↔◌, ◌⊎◌, ◌<◌, ◌∷◌, ℕ, Bool, true, false, List, [], Option, None, Some, IsTrue, length},
+  Prelude.{IfNone, IfOk, Result},
   String.string_bytes,
   List.{All, Contains, HoldsAt},
 }
@@ -13,6 +14,9 @@ use Rattle.folder_drop.specs.{
     removal.{Namesake.Namesake, TwoMessages.TwoMessages},
     seen_files.SeenFiles.SeenFiles,
   },
+  MailFiles.{Has, LacksSome, DropFile, file_place},
+  MaildirMail.is_namesake,
+  Places.folder_and_name,
   RealMaildir.listed_name,
   SameOctets.TellsSame,
   SeenFiles.{HaveBase, those_seen},
@@ -136,3 +140,34 @@ pub record RemovesMessage {File : Type 0} (remaining : File → Option (List ℕ
   pub these : List PlacedFile
   pub have : HaveBase (base (listed_name listed)) from these
   pub removes : RemovesSeen remaining found opened removed listed these told
+
+-- ---- what goes, if only this server changes the Maildir
+
+-- each of these files was seen
+abbrev pub SeesAll : List DropFile → List PlacedFile → Type 0
+SeesAll files seen = All (λ (file : DropFile). (from : PlacedFile) × Contains seen from
+    × (folder_and_name from ≡ file_place file)) files
+
+-- if there was a look since the removals of a session began, it saw each of these files
+abbrev pub SeesSince : List DropFile → SeenFiles → Type 0
+SeesSince files seen = seen.are_removed ≡ true → (seen.files ≡ None) ⊎ SeesAll files (those_seen seen.files)
+
+-- the file has one of these names
+abbrev pub BearsOne : List Namesake → DropFile → Type 0
+BearsOne names file = (name : Namesake) × Contains names name × Has name.file file
+
+-- the regular files with the base of a listed one have the same octets
+abbrev pub AreCopies : ListedFile → List DropFile → Type 0
+AreCopies listed files = (a b : DropFile) → Contains files a → Contains files b → is_namesake listed a ≡ true
+    → is_namesake listed b ≡ true → a.content ≡ b.content
+
+-- nothing went; or only regular files with the base of a listed one, all of which have the same octets
+abbrev pub TakesCopies : ListedFile → List DropFile → List DropFile → Type 0
+TakesCopies listed old new = (new ≡ old)
+    ⊎ (AreCopies listed old × LacksSome (λ (file : DropFile). is_namesake listed file ≡ true) old new)
+
+-- that; and if the listed one is removed, no regular file with its base is left
+abbrev pub TakesMessage : {E : Type 0} → ListedFile → List DropFile → Result (Option TwoMessages) E → List DropFile
+    → Type 0
+TakesMessage listed old result new = TakesCopies listed old new
+    × IfOk result (λ told. IfNone told (All (λ (file : DropFile). is_namesake listed file ≡ false) new))

@@ -9,6 +9,7 @@ mod mail_files;
 mod maildir_drop;
 mod maildir_folders;
 mod maildir_names;
+mod memory_files;
 mod open_folder;
 mod removal;
 mod same_octets;

@@ -73,7 +73,8 @@ impl DropListing {
 
     /// The files.
     pub fn files(&self) -> &[ListedFile]
-        ensures { result.now ≡ self.now.files }
+        ensures files { result.now ≡ self.now.files }
+        ensures in_order { AreAscending (listed_names self.now.files) }
     {
         self.files.as_slice()
     }

@@ -1,10 +1,12 @@
 //! What a maildrop asks of the folders of a Maildir.
 
+use crate::folders_look::FoldersLook;
 use crate::listed_file::stamp_of;
 use crate::maildir_names::{Folder, PlacedFile, Stamp};
 use crate::removal::Namesake;
 use std::alloc::Global;
 use std::fs::Metadata;
+use std::hash::RandomState;
 use std::io::{self, ErrorKind, Read};
 use std::os::unix::fs::MetadataExt;
 
@@ -73,15 +75,24 @@ pub struct FileWay {
 /// The files in `new` and `cur` of a Maildir. Others put files there, move them and take them away at any moment: each
 /// answer is only of the moment of its call.
 pub trait MailFiles {
-    ghost use Rattle.std.specs.Prelude.{◌≡◌, ℕ, List, Option, IfOk, string_bytes};
+    ghost use Rattle.std.specs.Prelude.{◌≡◌, ℕ, List, Contains, Option, None, IfOk, OnOk, string_bytes};
     ghost use Rattle.folder_drop.specs.{
-      declared.{mail_files.{FileNumber.FileNumber, FileWay.FileWay, Found.Found}, maildir_names.PlacedFile.PlacedFile},
+      declared.{
+        folders_look.FoldersLook.FoldersLook,
+        mail_files.{FileNumber.FileNumber, FileWay.FileWay, Found.Found},
+        maildir_names.PlacedFile.PlacedFile,
+      },
       Finding.LooksUp,
+      FoldersLook.IsUnchanged,
+      MailFiles.{AreMailFiles, Bears, Has, TellsEach, Looks, DropFile, HasOctetsOf, Skips, Stays, TakesSome},
       Places.AreInOrder,
       Removal.MayGo,
     };
 
     type File: Read + Drop;
+
+    // The path of the Maildir.
+    ghost path: { Self → List ℕ };
 
     // It answered that the folders had these files.
     ghost told: { Self → List PlacedFile → Type 0 };
@@ -95,8 +106,31 @@ pub trait MailFiles {
     // It removed the name of the regular file of this number.
     ghost removed: { Self → FileWay → FileNumber → Type 0 };
 
+    // What is there now, but for what has a name that begins with a full stop.
+    ghost files: { Self → List DropFile };
+
+    // The premise: the system does what its calls promise, and nobody but this server changes the Maildir.
+    ghost sound: { Self → Type 0 };
+
+    // It looked at the folders so when these files were there.
+    ghost looked: { Self → FoldersLook → List DropFile → Type 0 };
+
     /// The allocator.
     fn alloc(&self) -> Global;
+
+    /// A hasher of its own. Random, since the names of files may come from ids that a server chose.
+    fn hasher(&self) -> io::Result<RandomState>;
+
+    /// Opens both folders, and looks at them.
+    fn look(&mut self) -> io::Result<FoldersLook>
+        ensures stays { Stays path looked self.old self.new }
+        ensures looks { sound self.new → sound self.old
+            × Looks (files self.old) result (files self.new) (looked self.new) };
+
+    /// Closes both folders.
+    fn close(&mut self)
+        ensures stays { Stays path looked self.old self.new }
+        ensures same { sound self.new → sound self.old × (files self.new ≡ files self.old) };
 
     /// The files of both folders at one moment, in order.
     fn list(&self) -> io::Result<Vec<PlacedFile>>
@@ -115,12 +149,40 @@ pub trait MailFiles {
     fn open(&self, file: &FileWay, number: FileNumber) -> io::Result<Self::File>
         ensures { IfOk result (opened self.now file.now number) };
 
+    /// Goes past so many octets of a file that was opened.
+    fn skip(&self, file: &mut Self::File, count: u64) -> io::Result<()>
+        ensures { sound self.now → OnOk result
+            (Skips (Self.File.remaining file.old) count (Self.File.remaining file.new)) };
+
     /// Removes the regular file of a message, or one that goes with it. NotFound if something else has its name by
     /// now.
-    fn remove(&self, file: &Namesake, listed: &Namesake) -> io::Result<()>
-        requires { MayGo Self.File.remaining (opened self.now) listed.now file.now }
-        ensures { IfOk result (λ _. removed self.now file.now.file file.now.number) };
+    fn remove(&mut self, file: &Namesake, listed: &Namesake) -> io::Result<()>
+        requires { MayGo Self.File.remaining (opened self.old) listed.now file.now }
+        ensures removed { IfOk result (λ _. removed self.new file.now.file file.now.number) }
+        ensures takes { TakesSome path looked opened removed sound files (Has file.now.file) self.old self.new };
 
     /// The error for a name, with the reason.
     fn refuse(&self, file: &FileWay, words: &str) -> io::Error;
+
+    /// The path of the file or folder for which a call was refused since the last time it was asked for.
+    fn take_refused(&self) -> Option<String>;
+
+    ghost lists: { (d : Self) (all : List PlacedFile) → sound d → told d all → TellsEach (files d) all };
+
+    ghost finds: { (d : Self) (way : FileWay) (what : Option Found) → sound d → found d way what
+        → Bears (files d) way what };
+
+    ghost reads: { (d : Self) (way : FileWay) (number : FileNumber) (file : Self.File) → sound d
+        → opened d way number file → HasOctetsOf Self.File.remaining (files d) number file };
+
+    ghost goes: { (d : Self) (look : FoldersLook) (was : List DropFile) → sound d → looked d look was
+        → (file : DropFile) → Contains (files d) file → Contains was file };
+
+    ghost rests: { (d : Self) (earlier later : FoldersLook) (was now : List DropFile) → sound d → looked d earlier was
+        → looked d later now → IsUnchanged earlier later → was ≡ now };
+
+    ghost unlinks: { (d : Self) (way : FileWay) (number : FileNumber) → sound d → removed d way number
+        → Bears (files d) way None };
+
+    ghost whole: { (d : Self) → sound d → AreMailFiles (files d) };
 }

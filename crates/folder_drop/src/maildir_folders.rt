@@ -1,7 +1,7 @@
 //! The two folders of a Maildir whose files are messages.
 ghost use Rattle.std.specs.{
   List.Sorted.IsPermutation,
-  Prelude.{◌≡◌, ◌++◌, ℕ, List, IfOk, IfSome, OnOk, map, string_bytes},
+  Prelude.{◌≡◌, ◌++◌, ℕ, List, [], IfOk, IfSome, OnOk, map, string_bytes},
 };
 ghost use Rattle.folder_drop.specs.{
   declared.maildir_names.Folder.TheVariants.{Cur, New},
@@ -17,8 +17,10 @@ use crate::open_folder::{OPEN_FILES, OpenFolder};
 use crate::removal::Namesake;
 use folder_store::{HostFolders, ProcessMark, Sought, list_both};
 use std::alloc::{AllocError, Global};
-use std::io::{self, ErrorKind};
+use std::hash::RandomState;
+use std::io::{self, ErrorKind, Seek, SeekFrom};
 use std::marker::Model;
+use std::random::RandomSource;
 use std::rt::Files;
 use std::time::Clock;
 use system_calls::{Noted, System};
@@ -97,13 +99,6 @@ impl<'a, R: Files + Clock + AllocGlobal + Clone + Drop> MaildirFolders<'a, R> {
         }
     }
 
-    /// The path of the Maildir.
-    pub fn into_path(self) -> String
-        ensures { string_bytes result ≡ self.entry }
-    {
-        self.path
-    }
-
     /// Opens a folder.
     fn open_folder(&self, folder: Folder) -> io::Result<OpenFolder<'a, R>>
         ensures { IfOk result (λ found. IsMaildirFolder self.now folder found.folder (string_bytes found.path)) }
@@ -127,31 +122,8 @@ impl<'a, R: Files + Clock + AllocGlobal + Clone + Drop> MaildirFolders<'a, R> {
         }
     }
 
-    /// Opens both folders, and looks at them. The clock is read first, so that a change which the look misses has a
-    /// time no older than the look.
-    pub fn look(&mut self) -> io::Result<FoldersLook>
-        ensures { self.new ≡ self.old }
-    {
-        let at = match self.system.rt.since_1970() {
-            Ok(passed) => passed.as_secs(),
-            Err(_) => 0,
-        };
-        let new_folder = self.open_folder(Folder::New)?;
-        let cur_folder = self.open_folder(Folder::Cur)?;
-        let look = FoldersLook {
-            at,
-            new: new_folder.change()?,
-            cur: cur_folder.change()?,
-        };
-        self.opened = Some(OpenFolders {
-            new_folder,
-            cur_folder,
-        });
-        Ok(look)
-    }
-
     /// The path by which a file or a folder is named for which a call was refused.
-    pub fn named(&self, refused: String) -> String {
+    fn named(&self, refused: String) -> String {
         for folder in [Folder::New, Folder::Cur] {
             if let Ok(folder) = self.folder(folder) {
                 if let Some(path) = folder.path_for(refused.as_str()) {
@@ -181,8 +153,11 @@ impl<'a, R: Files + Clock + AllocGlobal + Clone + Drop> MaildirFolders<'a, R> {
     }
 }
 
-impl<'a, R: Files + Clock + AllocGlobal + Clone + Drop> MailFiles for MaildirFolders<'a, R> {
+impl<'a, R: Files + Clock + RandomSource + AllocGlobal + Clone + Drop> MailFiles
+    for MaildirFolders<'a, R> {
     type File = Noted<'a, R::File>;
+
+    ghost path = { λ d. d };
 
     ghost told = { λ _ _. Unit {0} };
 
@@ -192,8 +167,46 @@ impl<'a, R: Files + Clock + AllocGlobal + Clone + Drop> MailFiles for MaildirFol
 
     ghost removed = { λ _ _ _. Unit {0} };
 
+    ghost files = { λ _. [] };
+
+    ghost sound = { λ _. ⊥ };
+
+    ghost looked = { λ _ _ _. Unit {0} };
+
     fn alloc(&self) -> Global {
         self.system.alloc()
+    }
+
+    fn hasher(&self) -> io::Result<RandomState> {
+        RandomState::new(self.system.rt)
+    }
+
+    // The clock is read first, so that a change which the look misses has a time no older than the look.
+    fn look(&mut self) -> io::Result<FoldersLook>
+        ensures same { self.new ≡ self.old }
+    {
+        let at = match self.system.rt.since_1970() {
+            Ok(passed) => passed.as_secs(),
+            Err(_) => 0,
+        };
+        let new_folder = self.open_folder(Folder::New)?;
+        let cur_folder = self.open_folder(Folder::Cur)?;
+        let look = FoldersLook {
+            at,
+            new: new_folder.change()?,
+            cur: cur_folder.change()?,
+        };
+        self.opened = Some(OpenFolders {
+            new_folder,
+            cur_folder,
+        });
+        Ok(look)
+    }
+
+    fn close(&mut self)
+        ensures same { self.new ≡ self.old }
+    {
+        self.opened = None;
     }
 
     fn list(&self) -> io::Result<Vec<PlacedFile>> {
@@ -218,7 +231,17 @@ impl<'a, R: Files + Clock + AllocGlobal + Clone + Drop> MailFiles for MaildirFol
         self.folder(file.folder)?.open_file(file, number)
     }
 
-    fn remove(&self, file: &Namesake, _listed: &Namesake) -> io::Result<()> {
+    fn skip(&self, file: &mut Noted<'a, R::File>, count: u64) -> io::Result<()> {
+        let Ok(count) = i64::try_from(count) else {
+            return Err(io::Error::from(ErrorKind::InvalidInput));
+        };
+        file.seek(SeekFrom::Current(count))?;
+        Ok(())
+    }
+
+    fn remove(&mut self, file: &Namesake, _listed: &Namesake) -> io::Result<()>
+        ensures { self.new ≡ self.old }
+    {
         self.folder(file.file.folder)?
             .remove(&file.file, file.number)
     }
@@ -226,4 +249,23 @@ impl<'a, R: Files + Clock + AllocGlobal + Clone + Drop> MailFiles for MaildirFol
     fn refuse(&self, file: &FileWay, words: &str) -> io::Error {
         self.system.refusals.refuse(file.path.as_str(), words)
     }
+
+    fn take_refused(&self) -> Option<String> {
+        let refusal = self.system.refusals.take()?;
+        Some(self.named(refusal.path))
+    }
+
+    ghost lists = { λ _ _ none _. absurd none };
+
+    ghost finds = { λ _ _ _ none _. absurd none };
+
+    ghost reads = { λ _ _ _ _ none _. absurd none };
+
+    ghost goes = { λ _ _ _ none _ _. absurd none };
+
+    ghost rests = { λ _ _ _ _ _ none _ _ _. absurd none };
+
+    ghost unlinks = { λ _ _ _ none _. absurd none };
+
+    ghost whole = { λ _ none. absurd none };
 }

@@ -1,12 +1,17 @@
 //! Which files are removed with a message, and removing them.
 ghost use Rattle.std.specs.{
-  Prelude.{◌≡◌, ◌≢◌, ◌++◌, ◌<◌, true, false, length, string_bytes, IfOk, IfSome, IfNone, OnOk},
+  Prelude.{◌≡◌, ◌≢◌, ◌⊎◌, ◌++◌, ◌<◌, List, true, false, length, string_bytes, IfOk, IfSome, IfNone, OnOk},
   List.{All, HoldsAt},
 };
+ghost use Rattle.mail_terms.specs.MaildirName.{base};
 ghost use Rattle.folder_drop.specs.{
-  declared.removal.Namesake.Namesake,
-  Removal.{AreNamesakes, HasStamp, IsInPlace, IsListedAt, IsNamesake, IsOther, MayGo, NoneIsInPlace, NoneIsListed},
-  Removal.{RemovesMessage, RemovesSeen, RemovesWith, TellsInstead, WasRead, WereSeen, if_any},
+  declared.{maildir_names.PlacedFile.PlacedFile, removal.Namesake.Namesake},
+  MailFiles.{Stays, TakesSome},
+  RealMaildir.listed_name,
+  Removal.{AreNamesakes, HasStamp, IsInPlace, IsListedAt, BearsOne, IsNamesake, IsOther, MayGo, NoneIsInPlace},
+  Removal.{NoneIsListed, RemovesMessage, RemovesSeen, RemovesWith, SeesAll, TakesMessage, TellsInstead, WasRead},
+  Removal.{WereSeen, if_any},
+  SeenFiles.{HaveBase, those_seen},
 };
 
 use crate::finding::{MOST_TRIES, busy};
@@ -176,10 +181,12 @@ fn place_of_other<D: MailFiles>(
 }
 
 /// Removes those of these files that are copies of the listed one.
-fn remove_copies<D: MailFiles>(files: &D, all: &[Namesake], listed: &Namesake) -> io::Result<()>
-    requires { All (MayGo D.File.remaining (D.opened files.now) listed.now) all.now }
-    ensures { OnOk result (All (λ file. file.number ≢ listed.now.number
-        → D.removed files.now file.file file.number) all.now) }
+fn remove_copies<D: MailFiles>(files: &mut D, all: &[Namesake], listed: &Namesake) -> io::Result<()>
+    requires { All (MayGo D.File.remaining (D.opened files.old) listed.now) all.now }
+    ensures removed { OnOk result (All (λ file. file.number ≢ listed.now.number
+        → D.removed files.new file.file file.number) all.now) }
+    ensures takes { TakesSome D.path D.looked D.opened D.removed D.sound D.files (BearsOne all.now) files.old
+        files.new }
 {
     for file in all {
         if file.number != listed.number {
@@ -190,10 +197,12 @@ fn remove_copies<D: MailFiles>(files: &D, all: &[Namesake], listed: &Namesake) -
 }
 
 /// Removes those of these files that are the listed one.
-fn remove_names<D: MailFiles>(files: &D, all: &[Namesake], listed: &Namesake) -> io::Result<()>
-    requires { All (MayGo D.File.remaining (D.opened files.now) listed.now) all.now }
-    ensures { OnOk result (All (λ file. file.number ≡ listed.now.number
-        → D.removed files.now file.file file.number) all.now) }
+fn remove_names<D: MailFiles>(files: &mut D, all: &[Namesake], listed: &Namesake) -> io::Result<()>
+    requires { All (MayGo D.File.remaining (D.opened files.old) listed.now) all.now }
+    ensures removed { OnOk result (All (λ file. file.number ≡ listed.now.number
+        → D.removed files.new file.file file.number) all.now) }
+    ensures takes { TakesSome D.path D.looked D.opened D.removed D.sound D.files (BearsOne all.now) files.old
+        files.new }
 {
     for file in all {
         if file.number == listed.number {
@@ -205,9 +214,11 @@ fn remove_names<D: MailFiles>(files: &D, all: &[Namesake], listed: &Namesake) ->
 
 /// Removes these files, each of which may go with the listed one, and that one last, so that it stays if one of the
 /// others can't be removed.
-fn remove_all<D: MailFiles>(files: &D, all: &[Namesake], listed: &Namesake) -> io::Result<()>
-    requires { All (MayGo D.File.remaining (D.opened files.now) listed.now) all.now }
-    ensures { OnOk result (All (λ file. D.removed files.now file.file file.number) all.now) }
+fn remove_all<D: MailFiles>(files: &mut D, all: &[Namesake], listed: &Namesake) -> io::Result<()>
+    requires { All (MayGo D.File.remaining (D.opened files.old) listed.now) all.now }
+    ensures removed { OnOk result (All (λ file. D.removed files.new file.file file.number) all.now) }
+    ensures takes { TakesSome D.path D.looked D.opened D.removed D.sound D.files (BearsOne all.now) files.old
+        files.new }
 {
     remove_copies(files, all, listed)?;
     remove_names(files, all, listed)?;
@@ -228,11 +239,15 @@ fn two_messages(alloc: Global, listed: &str, other: &Namesake) -> Result<TwoMess
 /// Removes a listed file, one of all these, with the others. If one of them is another message, none is removed, and
 /// both are told.
 fn remove_with<D: MailFiles>(
-    files: &D,
+    files: &mut D,
     all: &[Namesake],
     listed: &Namesake,
 ) -> io::Result<Option<TwoMessages>>
-    ensures { IfOk result (RemovesWith D.File.remaining (D.opened files.now) (D.removed files.now) listed.now all.now) }
+    ensures removes { IfOk result (RemovesWith D.File.remaining (D.opened files.old) (D.removed files.new) listed.now
+        all.now) }
+    ensures takes { TakesSome D.path D.looked D.opened D.removed D.sound D.files (BearsOne all.now) files.old
+        files.new }
+    ensures none { (files.new ≡ files.old) ⊎ All (MayGo D.File.remaining (D.opened files.old) listed.now) all.now }
 {
     let Some(place) = place_of_other(files, all, listed)? else {
         remove_all(files, all, listed)?;
@@ -262,12 +277,16 @@ fn instead<D: MailFiles>(
 /// Removes a listed file, and before it those that go with it, from where they were seen. NotFound if one
 /// isn't there.
 fn remove_seen<D: MailFiles>(
-    files: &D,
+    files: &mut D,
     seen: &[PlacedFile],
     listed: &ListedFile,
 ) -> io::Result<Option<TwoMessages>>
-    ensures { IfOk result (RemovesSeen D.File.remaining (D.found files.now) (D.opened files.now) (D.removed files.now)
-        listed.now seen.now) }
+    ensures removes { IfOk result (RemovesSeen D.File.remaining (D.found files.old) (D.opened files.old)
+        (D.removed files.new) listed.now seen.now) }
+    ensures stays { Stays D.path D.looked files.old files.new }
+    ensures takes { D.sound files.new → D.sound files.old × ((from : List PlacedFile)
+        → HaveBase (base (listed_name listed.now)) from seen.now → SeesAll (D.files files.old) from
+        → TakesMessage listed.now (D.files files.old) result (D.files files.new)) }
 {
     let found = look_at_all(files, seen, listed)?;
     let all = found.as_slice();
@@ -282,12 +301,16 @@ fn remove_seen<D: MailFiles>(
 /// Removes a listed file and those that go with it. One that is gone already counts as removed. If a file
 /// with its base is another message, none is removed, and that one is returned with it.
 pub fn remove<D: MailFiles>(
-    files: &D,
+    files: &mut D,
     seen: &mut SeenFiles,
     listed: &ListedFile,
 ) -> io::Result<Option<TwoMessages>>
-    ensures { IfOk result (RemovesMessage D.File.remaining (D.found files.now) (D.opened files.now)
-        (D.removed files.now) (WereSeen (D.told files.now) seen.old) listed.now) }
+    ensures removes { IfOk result (λ told. (now : D) × RemovesMessage D.File.remaining (D.found now) (D.opened now)
+        (D.removed files.new) (WereSeen (D.told now) seen.old) listed.now told) }
+    ensures stays { Stays D.path D.looked files.old files.new × (seen.new.are_removed ≡ seen.old.are_removed) }
+    ensures takes { D.sound files.new → D.sound files.old × (SeesAll (D.files files.old) (those_seen seen.old.files)
+        → SeesAll (D.files files.new) (those_seen seen.new.files)
+        × TakesMessage listed.now (D.files files.old) result (D.files files.new)) }
 {
     for _ in 0..MOST_TRIES {
         match remove_seen(files, seen.with_base(listed.base()), listed) {

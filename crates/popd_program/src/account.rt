@@ -42,7 +42,7 @@ impl Account {
     where
         R: Files + Clock + RandomSource + AllocGlobal + Clone + Drop,
         ensures { IfOk result (λ maildir.
-            maildir ≡ record { path = string_bytes self.now.maildir; names = []; failures = 0; removals = 0 }) }
+            maildir ≡ record { files = string_bytes self.now.maildir; listed = []; failures = 0; removals = 0 }) }
     {
         let path = String::from_str(system.alloc(), self.maildir.as_str())?;
         Ok(MaildirDrop::at(system, path))

@@ -22,7 +22,7 @@ pub struct Quit {
 
 /// What was served over a Maildir.
 #[derive(Drop)]
-pub struct Visit<'a, R: Files + AllocGlobal + Clone + Drop> {
+pub struct Visit<'a, R: Files + Clock + RandomSource + AllocGlobal + Clone + Drop> {
     /// How the session ended.
     pub served: Result<(), ServerFault>,
     /// Whether it came to QUIT.

@@ -1,27 +1,22 @@
 //! How a Maildir is listed: the files that are found, and the messages that they are.
-ghost use Rattle.std.specs.Prelude.{◌≡◌, ◌≤◌, ◌<◌, All, IfNone, IfOk, IfSome, OnErr, length, map, vec_len};
-ghost use Rattle.mail_terms.specs.Distinct.{AreDistinct};
+ghost use Rattle.std.specs.Prelude.{◌≡◌, ◌≤◌, ◌<◌, All, IfNone, IfOk, IfSome, OnOk, length};
 ghost use Rattle.folder_drop.specs.{
   CountedSizes.ComeFrom,
   Listing.{AreListed, IsAccountedFor, IsMeasured, IsPassedOver, ListsFound},
+  MaildirMail.{AreRight, IsListing, ListsChosen, WasListed},
+  MailFiles.{TellsEach, Stays},
   Places.AreInOrder,
-  RealMaildir.{AreAscending, HaveIds, uid_of},
 };
 
 use crate::finding;
-use crate::folders_look::FoldersLook;
 use crate::listed_file::{CountedSizes, ListedFile, PIECE};
 use crate::listing::{DropListing, ListedFiles};
 use crate::mail_files::MailFiles;
-use crate::maildir_drop::MaildirDrop;
 use crate::maildir_names::{PlacedFile, Stamp, long_id};
 use crate::seen_files::SeenFiles;
-use pop3_server::{Entry, MAX_COUNT, MAX_SIZE};
+use pop3_server::MAX_SIZE;
 use std::hash::RandomState;
-use std::random::RandomSource;
-use std::rt::Files;
-use std::time::Clock;
-use std::{io, mem};
+use std::io;
 
 /// The length and time of change of a file that was found, and its size as a message. None if it is no message.
 fn measure<D: MailFiles>(
@@ -65,6 +60,9 @@ fn list_among<D: MailFiles>(
         (D.opened files.now) (D.told files.now) earlier.now) found.items) listed.files.items) }
     ensures whole { IfOk result (λ listed. All (IsAccountedFor (IsPassedOver D.File.remaining (D.found files.now)
         (D.opened files.now) (D.told files.now) earlier.now) listed.files.items) found.items) }
+    ensures chosen { D.sound files.now → TellsEach (D.files files.now) found.items
+        → AreRight (D.files files.now) earlier.now
+        → IfOk result (λ listed. ListsChosen (D.files files.now) listed.files.items) }
 {
     let alloc = files.alloc();
     let mut listed = ListedFiles::with_capacity(alloc, found.len(), hasher)?;
@@ -93,39 +91,44 @@ fn list_among<D: MailFiles>(
     Ok(listed)
 }
 
-impl<'a, R: Files + Clock + RandomSource + AllocGlobal + Clone + Drop> MaildirDrop<'a, R> {
-    /// The messages of the Maildir as it is now.
-    fn list(&self, last_seen: &mut SeenFiles, look: FoldersLook) -> io::Result<DropListing>
-        ensures { IfOk result (λ listing. listing.look ≡ look) }
-    {
-        let found = self.folders.list()?;
-        // Random, since the names of files may come from ids that a server chose.
-        let hasher = RandomState::new(self.system.rt)?;
-        let listed = list_among(
-            &self.folders,
-            last_seen,
-            found,
-            self.earlier.files(),
-            hasher,
-        )?;
-        Ok(listed.into_listing(look))
-    }
+/// The messages among all files that are there now.
+fn list_now<D: MailFiles>(
+    files: &D,
+    seen: &mut SeenFiles,
+    earlier: &[ListedFile],
+) -> io::Result<ListedFiles>
+    ensures listed { IfOk result (λ listed. AreListed listed.long_ids listed.files.items) }
+    ensures lists { D.sound files.now → AreRight (D.files files.now) earlier.now
+        → IfOk result (λ listed. IsListing (D.files files.now) listed.files.items) }
+{
+    let found = files.list()?;
+    let hasher = files.hasher()?;
+    let listed = list_among(files, seen, found, earlier, hasher)?;
+    Ok(listed)
+}
 
-    /// Lists the messages of the Maildir as it is now: those of the earlier listing, if it is still valid.
-    pub(crate) fn list_messages(&mut self, last_seen: &mut SeenFiles) -> io::Result<Vec<Entry>>
-        ensures within { IfOk result (λ entries. vec_len entries ≤ MAX_COUNT) }
-        ensures distinct { IfOk result (λ entries. AreDistinct (map uid_of entries.items)) }
-        ensures names { IfOk result (λ entries. HaveIds entries.items self.new.names × AreAscending self.new.names) }
-        ensures others { self.new ≡ record self.old { names = self.new.names } }
-        ensures err { OnErr result (self.new ≡ self.old) }
-    {
-        let look = self.folders.look()?;
-        if !self.earlier.look().is_unchanged_at(&look) {
-            self.earlier = self.list(last_seen, look)?;
-        }
-        let alloc = self.system.alloc();
-        let entries = self.earlier.entries(alloc)?;
-        self.listing = mem::replace(&mut self.earlier, DropListing::none(alloc));
-        Ok(entries)
+/// Lists the messages of all files that are there now in place of an earlier listing, unless that is still valid.
+pub(super) fn list_anew<D: MailFiles>(
+    files: &mut D,
+    seen: &mut SeenFiles,
+    earlier: &mut DropListing,
+) -> io::Result<()>
+    ensures stays { Stays D.path D.looked files.old files.new }
+    ensures lists { D.sound files.new → D.sound files.old × (D.files files.new ≡ D.files files.old)
+        × (WasListed (D.looked files.old) earlier.old → WasListed (D.looked files.new) earlier.new
+        × OnOk result (IsListing (D.files files.new) earlier.new.files)) }
+{
+    let look = match files.look() {
+        Ok(look) => look,
+        Err(error) => return Err(error),
+    };
+    if earlier.look().is_unchanged_at(&look) {
+        return Ok(());
     }
+    let listed = match list_now(files, seen, earlier.files()) {
+        Ok(listed) => listed,
+        Err(error) => return Err(error),
+    };
+    *earlier = listed.into_listing(look);
+    Ok(())
 }

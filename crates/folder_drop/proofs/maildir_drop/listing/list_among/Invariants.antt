@@ -1,7 +1,7 @@
 use Rattle.std.proofs.Common.{All}
 use Rattle.folder_drop.{
-  specs.{CountedSizes.ComeFrom, Listing.{AreListed, IsAccountedFor, IsMeasured, IsPassedOver, ListsFound}},
-  proofs.MaildirLemmas.LastIsOf,
+  specs.{CountedSizes.ComeFrom, Listing.{AreListed, IsAccountedFor, IsMeasured, IsPassedOver, ListsFound}, MaildirMail.AreRight},
+  proofs.{ListingLemmas.ListsSo, MaildirLemmas.LastIsOf},
 }
 use Rattle.folder_drop.proofs.maildir_drop.listing.list_among.Given as goal
 
@@ -12,3 +12,5 @@ invariant-loop-file g l = AreListed l.listed.long_ids l.listed.files.items × La
     (g.D.MailFiles.told l.files) l.earlier) l.listed.files.items) l.yielded
     × All (ListsFound (IsMeasured g.D.File.Read.remaining (g.D.MailFiles.found l.files) (g.D.MailFiles.opened l.files)
     (g.D.MailFiles.told l.files) l.earlier) l.yielded) l.listed.files.items
+    × (g.D.MailFiles.sound l.files → AreRight (g.D.MailFiles.files l.files) l.earlier
+    → ListsSo (g.D.MailFiles.files l.files) l.yielded l.listed.files.items)

@@ -1,0 +1,22 @@
+use Rattle.std.proofs.Common.{ap, subst}
+use Rattle.folder_drop.specs.{declared.maildir_drop.known_mail.KnownMail.KnownMail, FilesMail.{FilesMail, mail_of}}
+use Rattle.folder_drop.proofs.KnownLemmas.{gives_part}
+use Rattle.folder_drop.proofs.maildir_drop.FilesDropMaildrop.part.Goals as goal
+
+pub returns-in-Ok-clause-gives : goal.returns-in-Ok-clause-gives
+returns-in-Ok-clause-gives g c = λ s.
+    let r = c.self.inside in
+    let same = c.in-Ok.ensures.same in
+    let sound = subst (λ (k : KnownMail g.row.D.Denot g.row.D-File.Denot). g.D.MailFiles.sound k.files) same s.0 in
+    let mail = λ (k : KnownMail g.row.D.Denot g.row.D-File.Denot). let drop : FilesMail g.row.D.Denot =
+    record { files = k.files; listed = k.listing.files; failures = r.failures; removals = r.removals } in
+    mail_of g.D.MailFiles.files drop in
+    rw (← c.self.view_is) (
+      sound,
+      s.1,
+      (
+        ap mail same,
+        gives_part (g.D.MailFiles.files r.known.files) r.known.listing.files c.args.i c.args.start c.in-Ok.n
+            c.read_part.new.piece c.in-Ok.ensures.within.1 (c.in-Ok.ensures.own sound (c.self.invariant sound)).1,
+      ),
+    )

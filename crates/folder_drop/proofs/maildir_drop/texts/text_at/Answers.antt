@@ -1,0 +1,8 @@
+use Rattle.std.proofs.Common.{IfSome, subst}
+use Rattle.folder_drop.proofs.maildir_drop.texts.text_at.Goals as goal
+
+pub returns-in-Some-clause-own : goal.returns-in-Some-clause-own
+returns-in-Some-clause-own g c = λ s d known before. (rw c.in-Some.ensures.same at before) c.in-Some.ensures.there.0
+
+pub returns-in_ok-text-in-None-clause-own : goal.returns-in_ok-text-in-None-clause-own
+returns-in_ok-text-in-None-clause-own g c = λ s d known _. c.in_ok-text-in-None.ensures.own s d known

@@ -1,0 +1,29 @@
+-- The premise is never true of a real folder, so what the trait says under it needs no proof.
+use Rattle.std.{proofs.Common.{◌≡◌, ℕ, Err, List, Ok, Result}, specs.Prelude.IfOk}
+use Rattle.folder_drop.specs.{declared.folders_look.FoldersLook.FoldersLook, MailFiles.{DropFile, Stays}}
+use Rattle.folder_drop.proofs.maildir_folders.MaildirFoldersMailFiles.TheImpl.Goals as goal
+
+nothing_told : {T E : Type 0} (result : Result T E) → IfOk result (λ _. Unit {0})
+nothing_told (Ok done) = tt
+nothing_told (Err error) = tt
+
+stays_itself : (old new : List ℕ) → new ≡ old
+    → Stays {D = List ℕ} (λ d. d) (λ (d : List ℕ) (look : FoldersLook) (was : List DropFile). Unit {0}) old new
+stays_itself old new same = record { place = same; looks = λ look was is. is }
+
+pub look-tells : goal.look-tells
+look-tells g x c = record { stays = stays_itself _ _ c.ensures.same; looks = λ none. absurd none }
+
+pub close-tells : goal.close-tells
+close-tells g x c = record { stays = stays_itself _ _ c.ensures.same; same = λ none. absurd none }
+
+pub remove-tells : goal.remove-tells
+remove-tells g x c = record {
+  removed = nothing_told c.result;
+  takes = record {
+    stays = stays_itself _ _ c.ensures;
+    handles = λ way number file is. is;
+    names = λ way number is. is;
+    lacks = λ none. absurd none;
+  };
+}

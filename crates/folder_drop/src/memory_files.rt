@@ -1,0 +1,169 @@
+//! A Maildir in memory that has one file or none: all that `MailFiles` says of the calls can hold of one system.
+ghost use Rattle.std.specs.Prelude.{◌≡◌, ◌↔◌, [], None, Some, IfNone, IfSome, IsTrue};
+ghost use Rattle.folder_drop.specs.{
+  MailFiles.{Bears, TellsEach, HasOctetsOf, file_place},
+  MemoryFiles.{HasLooked, memory_file_of, memory_files_in, keeps_whole},
+  Places.IsWayTo,
+};
+
+use crate::folders_look::FoldersLook;
+use crate::mail_files::{FileNumber, FileWay, Found, MailFiles};
+use crate::maildir_names::{Folder, PlacedFile, Stamp};
+use crate::removal::Namesake;
+use std::alloc::Global;
+use std::hash::RandomState;
+use std::io::{self, ErrorKind};
+
+/// A regular file of a Maildir in memory.
+#[derive(Clone, Copy)]
+pub struct MemoryFile<'a> {
+    pub folder: Folder,
+    pub name: &'a str,
+    pub number: FileNumber,
+    pub stamp: Stamp,
+    pub content: &'a [u8],
+}
+
+impl<'a> MemoryFile<'a> {
+    /// Whether it has this name.
+    fn has(&self, way: &FileWay) -> bool
+        ensures { IsTrue result ↔ IsWayTo way.now (file_place (memory_file_of self.now)) }
+    {
+        way.folder == self.folder && way.name.as_str() == self.name
+    }
+}
+
+/// A Maildir in memory that has this file, or none. No listing of it stays valid.
+#[derive(Drop)]
+pub struct MemoryFiles<'a> {
+    pub alloc: Global,
+    pub hasher: RandomState,
+    pub file: Option<MemoryFile<'a>>,
+}
+
+impl<'a> MemoryFiles<'a> {
+    /// The file of this name, if there is one.
+    fn bearer(&self, way: &FileWay) -> Option<MemoryFile<'a>>
+        ensures some { IfSome result (λ file. (self.now.file ≡ Some file)
+            × IsWayTo way.now (file_place (memory_file_of file))) }
+        ensures none { IfNone result (Bears (memory_files_in self.now.file) way.now None) }
+    {
+        let file = self.file?;
+        if file.has(way) {
+            return Some(file);
+        }
+        None
+    }
+}
+
+impl<'a> MailFiles for MemoryFiles<'a> {
+    type File = &'a [u8];
+
+    ghost path = { λ _. [] };
+
+    ghost told = { λ d all. TellsEach (memory_files_in d.file) all };
+
+    ghost found = { λ d way what. Bears (memory_files_in d.file) way what };
+
+    ghost opened = { λ d way number handle. HasOctetsOf (λ s. Some s.now) (memory_files_in d.file) number handle };
+
+    ghost removed = { λ d way number. Bears (memory_files_in d.file) way None };
+
+    ghost files = { λ d. memory_files_in d.file };
+
+    ghost sound = { λ _. Unit {0} };
+
+    ghost looked = { λ d look was. HasLooked (memory_files_in d.file) look was };
+
+    fn alloc(&self) -> Global {
+        self.alloc
+    }
+
+    fn hasher(&self) -> io::Result<RandomState> {
+        Ok(self.hasher)
+    }
+
+    fn look(&mut self) -> io::Result<FoldersLook> {
+        Ok(FoldersLook::none())
+    }
+
+    fn close(&mut self) {}
+
+    fn list(&self) -> io::Result<Vec<PlacedFile>> {
+        let mut files = Vec::new(self.alloc);
+        let Some(file) = self.file else {
+            return Ok(files);
+        };
+        let name = String::from_str(self.alloc, file.name)?;
+        files.push(PlacedFile::of(file.folder, name))?;
+        Ok(files)
+    }
+
+    fn way(&self, folder: Folder, name: &str) -> io::Result<FileWay> {
+        Ok(FileWay {
+            folder,
+            name: String::from_str(self.alloc, name)?,
+            path: String::from_str(self.alloc, name)?,
+            way: String::from_str(self.alloc, name)?,
+        })
+    }
+
+    fn look_up(&self, way: &FileWay) -> io::Result<Found> {
+        match self.bearer(way) {
+            Some(file) => Ok(Found {
+                is_regular: true,
+                number: file.number,
+                stamp: file.stamp,
+            }),
+            None => Err(io::Error::from(ErrorKind::NotFound)),
+        }
+    }
+
+    fn open(&self, way: &FileWay, number: FileNumber) -> io::Result<&'a [u8]> {
+        match self.bearer(way) {
+            Some(file) if file.number == number => Ok(file.content),
+            _ => Err(io::Error::from(ErrorKind::NotFound)),
+        }
+    }
+
+    fn skip(&self, file: &mut &'a [u8], count: u64) -> io::Result<()> {
+        let all: &'a [u8] = *file;
+        let Some(rest) = all.get(count as usize..) else {
+            return Err(io::Error::from(ErrorKind::InvalidInput));
+        };
+        *file = rest;
+        Ok(())
+    }
+
+    fn remove(&mut self, namesake: &Namesake, _listed: &Namesake) -> io::Result<()> {
+        match self.bearer(&namesake.file) {
+            Some(file) if file.number == namesake.number => {
+                self.file = None;
+                Ok(())
+            }
+            _ => Err(io::Error::from(ErrorKind::NotFound)),
+        }
+    }
+
+    fn refuse(&self, _file: &FileWay, _words: &str) -> io::Error {
+        io::Error::from(ErrorKind::InvalidInput)
+    }
+
+    fn take_refused(&self) -> Option<String> {
+        None
+    }
+
+    ghost lists = { λ _ _ _ told. told };
+
+    ghost finds = { λ _ _ _ _ found. found };
+
+    ghost reads = { λ _ _ _ _ _ opened. opened };
+
+    ghost goes = { λ _ _ _ _ looked. looked.1 };
+
+    ghost rests = { λ _ earlier later _ _ _ one _ same. absurd (one.0 later same) };
+
+    ghost unlinks = { λ _ _ _ _ removed. removed };
+
+    ghost whole = { λ d _. keeps_whole d.file };
+}
