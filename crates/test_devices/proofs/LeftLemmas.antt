@@ -7,7 +7,7 @@ use Rattle.std.proofs.{
 }
 use Rattle.folder_store.specs.{MailFolders.{MailFile, Directories, is_left}, MailPower.{IsMailLeftAs}}
 use Rattle.test_devices.{
-  specs.declared.memory_folders.{FoundMail.FoundMail, StoredMail.StoredMail},
+  specs.declared.stored_mail.{FoundMail.FoundMail, StoredMail.StoredMail},
   specs.MemoryFolders.{MayBeFound, MayFind, found_file, stored_file},
   proofs.Losses.left_here,
 }

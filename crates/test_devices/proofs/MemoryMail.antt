@@ -8,7 +8,7 @@ use Rattle.std.proofs.{
 use Rattle.std.specs.List.{find}
 use Rattle.mail_terms.proofs.ListLemmas.{any_map}
 use Rattle.mail_store.specs.{Loss.is_among, declared.maildir.disk.Folder.{Folder, TheVariants.{New, Cur}}, Maildir.{File, all_there}}
-use Rattle.test_devices.specs.{declared.memory_folders.StoredMail.StoredMail, MemoryFolders.{MayBeLeftAs, list_of, stored_file}}
+use Rattle.test_devices.specs.{declared.stored_mail.StoredMail.StoredMail, MemoryFolders.{MayBeLeftAs, list_of, stored_file}}
 use Rattle.folder_store.specs.{
   MailFolders.{MailFile, Directories, MovesFile, RestsFile, Moved, OneMoves, is_in, is_left, name_at, rests_in},
   MailPower.EntriesLeftAs,

@@ -9,7 +9,7 @@ use Rattle.folder_store.specs.{
   MailFolders.{Directories, MailFile, is_left, is_told},
   MailPower.{EntriesLeftAs, IsMailLeftAs, LosesMail},
 }
-use Rattle.test_devices.specs.declared.memory_folders.{FoundMail.{FoundMail}, StoredMail.{StoredMail}}
+use Rattle.test_devices.specs.declared.stored_mail.{FoundMail.{FoundMail}, StoredMail.{StoredMail}}
 
 -- a file
 abbrev pub stored_file : StoredMail → MailFile

@@ -12,6 +12,7 @@ mod memory_folders;
 mod memory_shared;
 mod new_file;
 mod script_wire;
+mod stored_mail;
 mod torn;
 
 pub use endless_wire::EndlessWire;
@@ -20,7 +21,8 @@ pub use fused_wire::FusedWire;
 pub use laws::{files_are_lost, mail_is_lost};
 pub use memory_calls::{CallFuse, MemoryCalls, MemoryMade, MemoryOpened};
 pub use memory_folder::{Left, MemoryFolder};
-pub use memory_folders::{FoundMail, MailLeft, MemoryFolderMaildir, MemoryFolders, ReaderStep};
+pub use memory_folders::{MemoryFolderMaildir, MemoryFolders, ReaderStep};
 pub use memory_shared::{MemoryShared, OpenedMail};
 pub use new_file::MemoryNewFile;
 pub use script_wire::ScriptWire;
+pub use stored_mail::{FoundMail, MailLeft};

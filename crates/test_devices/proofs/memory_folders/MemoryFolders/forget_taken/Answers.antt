@@ -1,7 +1,7 @@
 use Rattle.std.proofs.{Common.{◌∙◌, ◌++◌, List, ap, map, refl, rules}, lemmas.List.{map-append, Elements.filter_from_retain}}
 use Rattle.folder_store.specs.MailFolders.{MailFile, files_at, mail_at}
 use Rattle.test_devices.{
-  specs.{declared.memory_folders.StoredMail.StoredMail, MemoryFolders.stored_file},
+  specs.{declared.stored_mail.StoredMail.StoredMail, MemoryFolders.stored_file},
   proofs.MemoryMail.{not_gone, left_files},
 }
 use Rattle.test_devices.proofs.memory_folders.MemoryFolders.forget_taken.Goals as goal

@@ -4,7 +4,7 @@ use Rattle.std.proofs.{
 }
 use Rattle.mail_terms.proofs.ListLemmas.{any_map}
 use Rattle.test_devices.proofs.MemoryMail.{among_has}
-use Rattle.test_devices.proofs.memory_folders.is_one_of.Goals as goal
+use Rattle.test_devices.proofs.stored_mail.is_one_of.Goals as goal
 
 pub returns-clause-id : goal.returns-clause-id
 returns-clause-id c =

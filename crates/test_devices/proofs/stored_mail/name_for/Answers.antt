@@ -1,7 +1,7 @@
 use Rattle.std.proofs.Common.{ℕ, List, [], ◌∷◌, ◌++◌, ◌∙◌, ap}
 use Rattle.mail_terms.specs.MaildirName.{base}
 use Rattle.mail_store.proofs.MaildirLemmas.{base_base, base_marked}
-use Rattle.test_devices.proofs.memory_folders.name_for.Goals as goal
+use Rattle.test_devices.proofs.stored_mail.name_for.Goals as goal
 
 pub returns-then-is_new : goal.returns-then-is_new
 returns-then-is_new c = ap base (c.in_ok-text.ensures.ok ∙ c.base.ensures) ∙ base_base c.args.name.now
