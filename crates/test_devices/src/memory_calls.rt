@@ -64,7 +64,7 @@ struct Replaced {
 }
 
 /// A file system in memory that has one folder. A call is refused if the system of a machine would refuse it too, if a
-/// fuse says so, or if memory runs out.
+/// fuse says so, or if memory runs out; `unlink` and `flush_targets` never are.
 #[derive(Drop)]
 pub struct MemoryCalls {
     alloc: Global,

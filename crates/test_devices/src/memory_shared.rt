@@ -23,7 +23,7 @@ use system_calls::Denial;
 /// The folders of a Maildir in memory, as single calls use them, and their reader, which moves files, or takes them
 /// away, before each call, but for calls on `tmp` and for rename(2): nothing gets a name between lstat(2) of it and
 /// rename(2) to it. A call is refused if the system of a machine would refuse it too, if a fuse says so, or if memory
-/// runs out.
+/// runs out; fstat(2) never is.
 #[derive(Drop)]
 pub struct MemoryShared {
     alloc: Global,
