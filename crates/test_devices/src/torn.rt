@@ -32,30 +32,23 @@ fn has_at(octets: &[u8], place: usize, octet: u8) -> bool
     place < octets.len() && octets[place] == octet
 }
 
-/// Whether the octet at a place of what is left of a file may be there.
-fn may_be_at(content: &[u8], flushed: &[u8], left: &[u8], place: usize) -> bool
-    requires { place < length left.now }
-    ensures { IsTrue result ↔ IsByteLeft content.now flushed.now left.now place }
-{
-    let octet = left[place];
-    if has_at(content, place, octet) {
-        return true;
-    }
-    if has_at(flushed, place, octet) {
-        return true;
-    }
-    place < content.len() && is_lost_from(left, place)
-}
-
 /// Whether each octet from a place on may be there.
 fn may_follow(content: &[u8], flushed: &[u8], left: &[u8], from: usize) -> bool
     ensures { IsTrue result ↔ ((i : ℕ) → from ≤ i → i < length left.now
         → IsByteLeft content.now flushed.now left.now i) }
 {
+    // The last block that was found to have only zeros from some octet on: it isn't read again for each of them.
+    let mut lost = None;
     for place in from..left.len() {
-        if !may_be_at(content, flushed, left, place) {
+        let octet = left[place];
+        if has_at(content, place, octet) || has_at(flushed, place, octet) {
+            continue;
+        }
+        let block = Some(place / BLOCK);
+        if place >= content.len() || (lost != block && !is_lost_from(left, place)) {
             return false;
         }
+        lost = block;
     }
     true
 }
