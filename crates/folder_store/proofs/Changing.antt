@@ -13,7 +13,7 @@ use Rattle.mail_store.specs.{
   DiskCalls.{appended, cut, doubted, flushed},
 }
 use Rattle.folder_store.specs.{
-  declared.{calls.FileCalls.Ghosts as CallsGhosts, handles.{Changed.{Changed}, Handles.{Handles}}},
+  declared.{calls.{FileCalls.Ghosts as CallsGhosts, OpenHandle.Ghosts as HandleGhosts}, handles.{Changed.{Changed}, Handles.{Handles}}},
   Kept.{KeptHolds},
   Under.{front_of},
   FileFolder.{Directory, DirEntry, LacksFile, content_at, entry, find, placed, with_blob, AltersInPart, AppendsTo, CutsTo, FlushesFile},
@@ -210,37 +210,39 @@ still_open old new path o now (at, (b, found)) (inr (c, is)) stays = (
 
 -- ---- what a folder keeps open
 
-module _ {C M F : Type 0} (system : CallsGhosts C M F) (opened : F → OpenPath) (folder : List ℕ) where
+module _ {C M F : Type 0} (system : CallsGhosts C M F) (handle : HandleGhosts F) (folder : List ℕ) where
   -- a handle that was kept
-  pub kept_opens : (calls : C) (h : Handles F) (x : Changed F) → KeptHolds system opened calls folder h → h.changed ≡ Some x
-      → system.sound calls → IsOpenedAt (system.tree calls) (front_of folder ++ string_bytes x.name) (opened x.file)
+  pub kept_opens : (calls : C) (h : Handles F) (x : Changed F) → KeptHolds system handle calls folder h → h.changed ≡ Some x
+      → system.sound calls → IsOpenedAt (system.tree calls) (front_of folder ++ string_bytes x.name) (handle.opened x.file)
   kept_opens calls h x k is s = (
     k.changed x is s,
     some_there (find (front_of folder ++ string_bytes x.name) (system.tree calls).directory.entries) (k.there x is s),
   )
 
-  pub keeps_open : (before after : C) (g h : Handles F) (x : Changed F) → KeptHolds system opened before folder g
+  pub keeps_open : (before after : C) (g h : Handles F) (x : Changed F) → KeptHolds system handle before folder g
       → (system.sound after → system.sound before) → h.changed ≡ Some x → h.names ≡ g.names
-      → (system.sound after → IsOpenedAt (system.tree after) (front_of folder ++ string_bytes x.name) (opened x.file))
-      → KeptHolds system opened after folder h
+      → (system.sound after → IsOpenedAt (system.tree after) (front_of folder ++ string_bytes x.name) (handle.opened x.file))
+      → KeptHolds system handle after folder h
   keeps_open before after g h x k back is names here = record {
     changed = λ c at s. subst
-        (λ (y : Changed F). opened y.file
+        (λ (y : Changed F). handle.opened y.file
         ≡ record { path = front_of folder ++ string_bytes y.name; turn = (system.tree after).turn; place = 0 })
         (same_Some x c (sym is ∙ at)) (here s).0;
     there = λ c at s. subst
         (λ (y : Changed F). find (front_of folder ++ string_bytes y.name) (system.tree after).directory.entries ≢ None)
         (same_Some x c (sym is ∙ at)) (let (_, (_, found)) = here s in λ gone. true≢false (ap is_some (sym found ∙ gone)));
     names = λ n at s. k.names n (sym names ∙ at) (back s);
+    which = λ n at. k.which n (sym names ∙ at);
   }
 
-  pub keeps_none : (before after : C) (g h : Handles F) → KeptHolds system opened before folder g
+  pub keeps_none : (before after : C) (g h : Handles F) → KeptHolds system handle before folder g
       → (system.sound after → system.sound before) → h.changed ≡ None → h.names ≡ g.names
-      → KeptHolds system opened after folder h
+      → KeptHolds system handle after folder h
   keeps_none before after g h k back is names = record {
     changed = λ c at s. absurd (true≢false (ap is_some (sym at ∙ is)));
     there = λ c at s. absurd (true≢false (ap is_some (sym at ∙ is)));
     names = λ n at s. k.names n (sym names ∙ at) (back s);
+    which = λ n at. k.which n (sym names ∙ at);
   }
 
 -- ---- what is only read

@@ -7,8 +7,16 @@ use Rattle.std.specs.{
 use Rattle.system_calls.specs.declared.refusal.Denial.{Denial}
 use Rattle.folder_store.specs.{
   Calls.flushes_none,
-  declared.handles.{Changed.{Changed}, Handles.{Handles}},
+  declared.{calls.FileStat.FileStat, handles.{Changed.{Changed}, Handles.{Handles}, Names.Names}},
 }
+
+-- the handle by which a file was changed last is kept for its next change
+abbrev pub IsKept : {F : Type 0} → Handles F → (name : List ℕ) → Changed F → Type 0
+IsKept handles name c = (handles.changed ≡ Some c) × (string_bytes c.name ≡ name) × (handles.keeps_handle ≡ true)
+
+-- a folder that is open is the one that the system reports
+abbrev pub IsTheOne : {F : Type 0} → Names F → FileStat → Type 0
+IsTheOne names stat = (names.device ≡ stat.device) × (names.inode ≡ stat.inode)
 
 -- a handle is kept, or closed; the folder stays
 abbrev pub KeepsOrCloses : {F : Type 0} → Handles F → Handles F → Changed F → Type 0

@@ -88,6 +88,7 @@ pub trait FileCalls {
       Stats,
     };
     ghost use Rattle.folder_store.specs.Calls.{NeverAbsent, StatsOpened, Syncs, SyncsNames, Tree, WritesOnto};
+    ghost use Rattle.folder_store.specs.declared.calls.FileStat.{FileStat};
 
     type Made: MadeHandle + Drop;
 
@@ -95,6 +96,9 @@ pub trait FileCalls {
 
     // The files that its paths lead to.
     ghost tree: { Self → Tree };
+
+    // What stat(2) told of a path, the call before.
+    ghost told_at: { Self → List ℕ → FileStat → Type 0 };
 
     // The folders that hold what a path leads to by links were flushed, but for the one at this path.
     ghost flushed_targets: { Self → List ℕ → Option (List ℕ) → Type 0 };
@@ -122,7 +126,8 @@ pub trait FileCalls {
 
     /// stat(2)
     fn stat(&mut self, path: &str) -> Result<FileStat, Denial>
-        ensures { sound self.new → sound self.old × (tree self.new ≡ tree self.old)
+        ensures tells { IfOk result (told_at self.new path.now) }
+        ensures stats { sound self.new → sound self.old × (tree self.new ≡ tree self.old)
             × Stats (tree self.old) path.now result };
 
     /// Whether lstat(2) says that the path names a link.

@@ -1,7 +1,7 @@
 //! The files that a folder of a file system has open.
 
-ghost use Rattle.std.specs.{Prelude.{◌≡◌, ◌↔◌, IfSome, IsTrue, None, Some, string_bytes}, Option.option_or};
-ghost use Rattle.folder_store.specs.Handles.{KeepsOrCloses};
+ghost use Rattle.std.specs.{Prelude.{◌≡◌, ◌↔◌, IfNone, IfSome, IsTrue, None, Some, string_bytes}, Option.option_or};
+ghost use Rattle.folder_store.specs.Handles.{IsKept, IsTheOne, KeepsOrCloses};
 
 use crate::calls::FileStat;
 use crate::watch::Watch;
@@ -24,7 +24,7 @@ pub struct Names<F> {
 impl<F> Names<F> {
     /// Whether this is the folder that the system reports.
     pub fn is_of(&self, found: &FileStat) -> bool
-        ensures { IsTrue result ↔ (self.now.device ≡ found.now.device) × (self.now.inode ≡ found.now.inode) }
+        ensures { IsTrue result ↔ IsTheOne self.now found.now }
     {
         self.device == found.device && self.inode == found.inode
     }
@@ -105,9 +105,9 @@ impl<F: Drop> Handles<F> {
 
     /// The handle kept from the file's last change, if it is. Another is closed.
     pub fn take_kept(&mut self, name: &str) -> Option<Changed<F>>
-        ensures taken { (self.new.changed ≡ None) × (self.new.names ≡ self.old.names)
-            × (self.new.watch ≡ self.old.watch) }
-        ensures kept { IfSome result (λ c. (self.old.changed ≡ Some c) × (string_bytes c.name ≡ name.now)) }
+        ensures taken { self.new ≡ record self.old { changed = None } }
+        ensures kept { IfSome result (IsKept self.old name.now) }
+        ensures none { IfNone result ((c : Changed F) → IsKept self.old name.now c → ⊥) }
     {
         let changed = self.take_changed(name)?;
         if self.keeps_handle {
@@ -119,9 +119,9 @@ impl<F: Drop> Handles<F> {
 
     /// The handle by which a file was changed last, if it is this one. Another is closed.
     pub fn take_changed(&mut self, name: &str) -> Option<Changed<F>>
-        ensures taken { (self.new.changed ≡ None) × (self.new.names ≡ self.old.names)
-            × (self.new.watch ≡ self.old.watch) }
+        ensures taken { self.new ≡ record self.old { changed = None } }
         ensures last { IfSome result (λ c. (self.old.changed ≡ Some c) × (string_bytes c.name ≡ name.now)) }
+        ensures none { IfNone result ((c : Changed F) → self.old.changed ≡ Some c → string_bytes c.name ≡ name.now → ⊥) }
     {
         let changed = self.changed.take()?;
         if changed.name.as_str() == name {

@@ -47,7 +47,7 @@ pub struct CallsFolder<'a, C: FileCalls> {
     paths: HostPaths<'a>,
     handles: Handles<C::File>,
     // What is open is what its path leads to.
-    ghost kept: { KeptHolds C.FileCalls C.File.opened calls (folder_of paths) handles },
+    ghost kept: { KeptHolds C.FileCalls C.File.OpenHandle calls (folder_of paths) handles },
 }
 
 /// A folder of the machine's file system. The listing is exact although others rename files meanwhile.

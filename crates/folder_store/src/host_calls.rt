@@ -90,6 +90,8 @@ impl<'a, R: Files + AllocGlobal> FileCalls for HostCalls<'a, R> {
 
     ghost tree = { λ _. unknown_tree };
 
+    ghost told_at = { λ _ _ _. Unit {0} };
+
     ghost flushed_targets = { λ _ _ _. Unit {0} };
 
     // Of the file system nothing is known.

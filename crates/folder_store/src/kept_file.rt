@@ -1,12 +1,12 @@
 //! What changes a folder's files and makes them durable, by handles that may be kept.
 
-ghost use Rattle.std.specs.Prelude.{◌≡◌, ◌-◌, ◌≤◌, None, IfOk, IfSome, OnOk, length};
+ghost use Rattle.std.specs.Prelude.{◌≡◌, ◌-◌, ◌≤◌, None, Ok, IfOk, IfSome, OnOk, length, string_bytes, true};
 ghost use Rattle.folder_store.specs.{
-  Calls.{AppendsOpened, AppendsSome, Creates, Truncates, FlushesFolder, Renames, Syncs, SyncsNames, answered},
+  Calls.{AppendsOpened, AppendsSome, Creates, FlushesFolder, OpensRegular, Renames, Syncs, SyncsNames, Truncates, answered},
   FileFolder.{AppendsTo, CutsTo, FlushesFile, TellsFileSize},
-  Handles.{FlushesTargets, NotesFolder},
+  Handles.{FlushesTargets, IsKept, NotesFolder},
   HostPaths.{folder_of, path_named},
-  Kept.{KeptHolds, OpensKept},
+  Kept.{IsKnown, KeptHolds, MeasuresKept, OpensNames},
   Sound.{WhereFilesSound, WhereFilesStay},
   Watch.{AppendsWatched, ChecksWatched, CutsWatched, NotesWatched},
 };
@@ -76,11 +76,12 @@ fn handle_of<C: FileCalls>(
     handles: &mut Handles<C::File>,
     name: &str,
 ) -> Result<Changed<C::File>, Denial>
-    requires { KeptHolds C.FileCalls C.File.opened calls.old (folder_of paths.now) handles.old }
+    requires { KeptHolds C.FileCalls C.File.OpenHandle calls.old (folder_of paths.now) handles.old }
     ensures opens { WhereFilesStay C.sound C.tree calls.old calls.new
-        (λ tree. OpensKept C.File.opened tree paths.now name.now result) }
-    ensures others { (handles.new.changed ≡ None) × (handles.new.names ≡ handles.old.names)
-        × (handles.new.watch ≡ handles.old.watch) }
+        (λ tree. OpensRegular (λ c. C.File.opened c.file) tree (path_named paths.now name.now) result) }
+    ensures named { IfOk result (λ c. string_bytes c.name ≡ name.now) }
+    ensures keeps { (c : Changed C.File) → IsKept handles.old name.now c → result ≡ Ok c }
+    ensures others { handles.new ≡ record handles.old { changed = None } }
 {
     if let Some(changed) = handles.take_kept(name) {
         return Ok(changed);
@@ -98,10 +99,11 @@ fn measure_kept<C: FileCalls>(
     handles: &mut Handles<C::File>,
     name: &str,
 ) -> Result<u64, Denial>
-    requires { KeptHolds C.FileCalls C.File.opened calls.old (folder_of paths.now) handles.old }
+    requires { KeptHolds C.FileCalls C.File.OpenHandle calls.old (folder_of paths.now) handles.old }
     ensures tells { WhereFilesStay C.sound C.tree calls.old calls.new
         (λ tree. TellsFileSize tree.directory (path_named paths.now name.now) (answered result) tree.directory) }
-    ensures kept { KeptHolds C.FileCalls C.File.opened calls.new (folder_of paths.now) handles.new }
+    ensures asks { MeasuresKept C.File.told handles.old name.now result handles.new }
+    ensures kept { KeptHolds C.FileCalls C.File.OpenHandle calls.new (folder_of paths.now) handles.new }
 {
     let changed = handle_of(calls, paths, handles, name)?;
     let found = calls.fstat(&changed.file)?;
@@ -119,10 +121,12 @@ pub fn size_of<C: FileCalls>(
     handles: &mut Handles<C::File>,
     name: &str,
 ) -> Result<u64, Denial>
-    requires { KeptHolds C.FileCalls C.File.opened calls.old (folder_of paths.now) handles.old }
+    requires { KeptHolds C.FileCalls C.File.OpenHandle calls.old (folder_of paths.now) handles.old }
     ensures tells { WhereFilesStay C.sound C.tree calls.old calls.new
         (λ tree. TellsFileSize tree.directory (path_named paths.now name.now) (answered result) tree.directory) }
-    ensures kept { KeptHolds C.FileCalls C.File.opened calls.new (folder_of paths.now) handles.new }
+    ensures asks { handles.old.keeps_handle ≡ true
+        → MeasuresKept C.File.told handles.old name.now result handles.new }
+    ensures kept { KeptHolds C.FileCalls C.File.OpenHandle calls.new (folder_of paths.now) handles.new }
 {
     if handles.keeps_handle {
         return measure_kept(calls, paths, handles, name);
@@ -260,11 +264,11 @@ pub fn append_kept<C: FileCalls>(
     name: &str,
     bytes: &[u8],
 ) -> Result<(), Denial>
-    requires { KeptHolds C.FileCalls C.File.opened calls.old (folder_of paths.now) handles.old }
+    requires { KeptHolds C.FileCalls C.File.OpenHandle calls.old (folder_of paths.now) handles.old }
     ensures watches { AppendsWatched C.File.told handles.old.watch (length bytes.now) result handles.new.watch }
     ensures appends { WhereFilesSound C.sound C.tree calls.old calls.new
         (λ old new. AppendsTo old.directory (path_named paths.now name.now) bytes.now (answered result) new.directory) }
-    ensures kept { KeptHolds C.FileCalls C.File.opened calls.new (folder_of paths.now) handles.new }
+    ensures kept { KeptHolds C.FileCalls C.File.OpenHandle calls.new (folder_of paths.now) handles.new }
 {
     let mut changed = handle_of(calls, paths, handles, name)?;
     let answer = append_watched(calls, paths, &mut handles.watch, &mut changed, bytes);
@@ -305,11 +309,11 @@ pub fn cut_kept<C: FileCalls>(
     name: &str,
     len: u64,
 ) -> Result<(), Denial>
-    requires { KeptHolds C.FileCalls C.File.opened calls.old (folder_of paths.now) handles.old }
+    requires { KeptHolds C.FileCalls C.File.OpenHandle calls.old (folder_of paths.now) handles.old }
     ensures watches { CutsWatched C.File.told handles.old.watch result handles.new.watch }
     ensures cuts { WhereFilesSound C.sound C.tree calls.old calls.new
         (λ old new. CutsTo old.directory (path_named paths.now name.now) len (answered result) new.directory) }
-    ensures kept { KeptHolds C.FileCalls C.File.opened calls.new (folder_of paths.now) handles.new }
+    ensures kept { KeptHolds C.FileCalls C.File.OpenHandle calls.new (folder_of paths.now) handles.new }
 {
     let changed = handle_of(calls, paths, handles, name)?;
     let answer = cut_watched(calls, paths, &mut handles.watch, &changed, len);
@@ -379,10 +383,10 @@ pub fn flush_kept<C: FileCalls>(
     handles: &mut Handles<C::File>,
     name: &str,
 ) -> Result<(), Denial>
-    requires { KeptHolds C.FileCalls C.File.opened calls.old (folder_of paths.now) handles.old }
+    requires { KeptHolds C.FileCalls C.File.OpenHandle calls.old (folder_of paths.now) handles.old }
     ensures flushes { WhereFilesSound C.sound C.tree calls.old calls.new
         (λ old new. FlushesFile old.directory (path_named paths.now name.now) (answered result) new.directory) }
-    ensures kept { KeptHolds C.FileCalls C.File.opened calls.new (folder_of paths.now) handles.new }
+    ensures kept { KeptHolds C.FileCalls C.File.OpenHandle calls.new (folder_of paths.now) handles.new }
 {
     match handles.take_changed(name) {
         Some(changed) => {
@@ -401,9 +405,11 @@ fn names_of<C: FileCalls>(
     paths: &HostPaths<'_>,
     handles: &mut Handles<C::File>,
 ) -> Result<Names<C::File>, Denial>
-    requires { KeptHolds C.FileCalls C.File.opened calls.old (folder_of paths.now) handles.old }
+    requires { KeptHolds C.FileCalls C.File.OpenHandle calls.old (folder_of paths.now) handles.old }
     ensures opens { WhereFilesStay C.sound C.tree calls.old calls.new
-        (λ _. IfOk result (λ names. (C.File.opened names.folder).path ≡ folder_of paths.now)) }
+        (λ tree. IfOk result (OpensNames C.File.OpenHandle (C.told_at calls.new (folder_of paths.now)) tree
+        (folder_of paths.now) handles.old)) }
+    ensures which { IfOk result (IsKnown C.File.told) }
     ensures others { handles.new ≡ record handles.old { names = None } }
 {
     let kept = handles.names.take();
@@ -430,11 +436,11 @@ pub fn sync_names<C: FileCalls>(
     paths: &HostPaths<'_>,
     handles: &mut Handles<C::File>,
 ) -> Result<(), Denial>
-    requires { KeptHolds C.FileCalls C.File.opened calls.old (folder_of paths.now) handles.old }
+    requires { KeptHolds C.FileCalls C.File.OpenHandle calls.old (folder_of paths.now) handles.old }
     ensures syncs { WhereFilesSound C.sound C.tree calls.old calls.new
         (λ old new. SyncsNames old (folder_of paths.now) result new) }
     ensures notes { NotesFolder (folder_of paths.now) handles.old result handles.new }
-    ensures kept { KeptHolds C.FileCalls C.File.opened calls.new (folder_of paths.now) handles.new }
+    ensures kept { KeptHolds C.FileCalls C.File.OpenHandle calls.new (folder_of paths.now) handles.new }
 {
     let names = match names_of(calls, paths, handles) {
         Ok(names) => names,
@@ -461,10 +467,10 @@ pub fn flush_names<C: FileCalls>(
     paths: &HostPaths<'_>,
     handles: &mut Handles<C::File>,
 ) -> Result<bool, Denial>
-    requires { KeptHolds C.FileCalls C.File.opened calls.old (folder_of paths.now) handles.old }
+    requires { KeptHolds C.FileCalls C.File.OpenHandle calls.old (folder_of paths.now) handles.old }
     ensures flushes { WhereFilesSound C.sound C.tree calls.old calls.new
         (λ old new. FlushesFolder old (folder_of paths.now) result new) }
-    ensures kept { KeptHolds C.FileCalls C.File.opened calls.new (folder_of paths.now) handles.new }
+    ensures kept { KeptHolds C.FileCalls C.File.OpenHandle calls.new (folder_of paths.now) handles.new }
 {
     are_flushed(sync_names(calls, paths, handles))
 }

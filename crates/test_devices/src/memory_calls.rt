@@ -330,6 +330,8 @@ impl FileCalls for MemoryCalls {
 
     ghost tree = { memory_tree };
 
+    ghost told_at = { λ _ _ _. Unit {0} };
+
     ghost flushed_targets = { λ _ _ _. Unit {0} };
 
     ghost sound = { λ _. Unit {0} };
