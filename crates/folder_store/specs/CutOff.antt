@@ -28,10 +28,10 @@ HasAll entry d name = (was : List ℕ) × (content_at d name ≡ Some was) × Be
 abbrev pub HasAllKept : {F : Type 0} → (F → Type 0) → (F → Directory) → CutOff F → (entry : List ℕ) → Type 0
 HasAllKept sound directory kept entry = sound kept.folder → HasAll entry (directory kept.folder) kept.name.now
 
--- the file in which it is kept, and its name, are durable, if the folder did what its calls promise
-abbrev pub IsKeptDurable : {F : Type 0} → (F → Type 0) → (F → Directory) → CutOff F → Type 0
-IsKeptDurable sound directory kept = sound kept.folder
-    → all_flushed (disk_at (directory kept.folder) kept.name.now) ≡ disk_at (directory kept.folder) kept.name.now
+-- the file in which it is kept, and its name, are durable
+abbrev pub IsKeptDurable : {F : Type 0} → (F → Directory) → CutOff F → Type 0
+IsKeptDurable directory kept =
+    all_flushed (disk_at (directory kept.folder) kept.name.now) ≡ disk_at (directory kept.folder) kept.name.now
 
 -- ---- what is done to the file in which it is kept
 
@@ -59,8 +59,8 @@ last_of n bytes = drop (length bytes - n) bytes
 -- how many octets of a text, which should have `len`, a file ends with: as many as the shorter of the two has, or none
 abbrev pub octets_had : (len : ℕ) → (text ours : List ℕ) → ℕ
 octets_had len text ours =
-    if bytes_eq (last_of (min (length ours) len) ours) (take (min (length ours) len) text) then min (length ours) len
-    else 0
+    let shared : ℕ = min (length ours) len in
+    if bytes_eq (last_of shared ours) (take shared text) then shared else 0
 
 -- those that it doesn't end with
 abbrev pub octets_lacked : (text ours : List ℕ) → List ℕ
@@ -112,7 +112,7 @@ abbrev pub KeepsCut : {F T : Type 0} → (F → Type 0) → (F → Directory) �
     → (before after : F) → Result T StoreFault → (old new : CutOff F) → Type 0
 KeepsCut sound directory name len before after result old new = (new.name ≡ old.name)
     × (sound after → WhereKeptSound sound directory old new (λ was now.
-    (KeepsAll (bytes_from (directory before) name len) was now × IsKeptDurable sound directory new)
+    (KeepsAll (bytes_from (directory before) name len) was now × IsKeptDurable directory new)
     ⊎ (IsErr result × (directory after ≡ directory before)
     × KeepsFront (bytes_from (directory before) name len) was now)))
 

@@ -184,7 +184,7 @@ impl<'a, F: FileFolder + Drop> CutOff<'a, F> {
           are_ours = false;
           has_kept = is_ok result || self.old.has_kept;
         } }
-        ensures durable { OnOk result (IsKeptDurable F.sound F.directory self.new) }
+        ensures durable { OnOk result (F.sound self.new.folder → IsKeptDurable F.directory self.new) }
         ensures reads { WhereFilesSound F.sound F.directory other.old other.new (λ old new. new ≡ old) }
         ensures keeps { F.sound other.new → WhereKeptSound F.sound F.directory self.old self.new (λ old new.
             KeepsText (bytes_from (F.directory other.old) name.now start) old result new) }
