@@ -1,12 +1,18 @@
 -- Where the devices of the machine's file system have their files.
 use Rattle.std.specs.{
-  Prelude.{◌≡◌, ◌⊎◌, ◌==◌, ◌++◌, ℕ, List, [], None, codes, decimal, length, if◌then◌else◌},
+  Prelude.{◌≡◌, ◌⊎◌, ◌==◌, ◌++◌, ℕ, List, [], None, false, codes, decimal, length, if◌then◌else◌},
   Path.path_join,
   Str.Pattern.{RFindsChar, SplitsAroundMatch},
+  IoError.error_kind,
 }
+use Rattle.system_calls.specs.declared.refusal.Denial.{Denial}
 use Rattle.hex.specs.Hex.{encode_lower}
-use Rattle.folder_store.specs.Under.{front_of}
+use Rattle.folder_store.specs.{Calls.{IsAbsent, flushes_none}, Under.{front_of}}
 use Rattle.folder_store.specs.declared.{host_paths.HostPaths.HostPaths, process_mark.ProcessMark.ProcessMark}
+
+-- a refusal that isn't an answer of the system: neither that nothing is there nor that no folders are flushed
+abbrev pub IsNoAnswer : Denial → Type 0
+IsNoAnswer d = (IsAbsent d → ⊥) × (flushes_none (error_kind d.error) ≡ false)
 
 -- a path, and one in the folder that it leads to, if there is a name
 abbrev pub path_of_folder : List ℕ → List ℕ → List ℕ

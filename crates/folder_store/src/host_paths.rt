@@ -1,13 +1,12 @@
 //! The paths of a folder of the machine's file system.
 
 ghost use Rattle.std.specs.{
-  Prelude.{◌≡◌, ◌++◌, IfErr, IfOk, false, string_bytes},
-  IoError.error_kind,
+  Prelude.{◌≡◌, ◌++◌, IfErr, IfOk, string_bytes},
   Path.path_buf_bytes,
 };
 ghost use Rattle.folder_store.specs.{
-  Calls.{IsAbsent, flushes_none},
-  HostPaths.{folder_of, path_named, path_of_file, path_of_folder, with_process_mark},
+  Calls.IsAbsent,
+  HostPaths.{IsNoAnswer, folder_of, path_named, path_of_file, path_of_folder, with_process_mark},
 };
 
 use crate::process_mark::ProcessMark;
@@ -34,8 +33,7 @@ impl<'a> HostPaths<'a> {
     // The path of a folder, made with room for so many octets more.
     fn path_in(&self, folder: &str, more: usize) -> Result<PathBuf, Denial>
         ensures path { IfOk result (λ path. path_buf_bytes path ≡ path_of_folder self.now.base.now folder.now) }
-        ensures fault { IfErr result (λ d. IsAbsent d → ⊥) }
-        ensures own { IfErr result (λ d. flushes_none (error_kind d.error) ≡ false) }
+        ensures fault { IfErr result IsNoAnswer }
     {
         let room = self
             .base
@@ -69,8 +67,7 @@ impl<'a> HostPaths<'a> {
     /// The path of the folder.
     pub fn folder_path(&self) -> Result<String, Denial>
         ensures path { IfOk result (λ path. string_bytes path ≡ folder_of self.now) }
-        ensures fault { IfErr result (λ d. IsAbsent d → ⊥) }
-        ensures own { IfErr result (λ d. flushes_none (error_kind d.error) ≡ false) }
+        ensures fault { IfErr result IsNoAnswer }
     {
         Ok(self.path_in(self.folder, 0)?.into_string())
     }
@@ -113,8 +110,7 @@ impl<'a> HostPaths<'a> {
 
     /// Why the folder isn't used.
     pub fn folder_refusal(&self, words: &str) -> Denial
-        ensures fault { IsAbsent result → ⊥ }
-        ensures own { flushes_none (error_kind result.error) ≡ false }
+        ensures { IsNoAnswer result }
     {
         match self.folder_path() {
             Ok(path) => Denial::because(self.alloc, path.as_str(), words),
