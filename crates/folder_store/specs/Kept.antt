@@ -1,23 +1,9 @@
 -- What is known of the files that a folder has open.
-use Rattle.std.specs.Prelude.{
-  ◌≡◌,
-  ◌≢◌,
-  ◌⊎◌,
-  ◌++◌,
-  ℕ,
-  List,
-  None,
-  Some,
-  Option,
-  Result,
-  Ok,
-  Err,
-  string_bytes,
-}
+use Rattle.std.specs.Prelude.{◌≡◌, ◌≢◌, ◌⊎◌, ◌++◌, ℕ, List, None, Some, Result, Ok, Err, string_bytes}
 use Rattle.system_calls.specs.declared.refusal.Denial.{Denial}
 use Rattle.folder_store.specs.{
   declared.calls.{FileCalls.Ghosts as CallsGhosts, FileStat.FileStat, OpenHandle.Ghosts as HandleGhosts},
-  declared.{handles.{Changed.Changed, Handles.Handles, Names.Names}, host_paths.HostPaths.HostPaths},
+  declared.handles.{Changed.Changed, Handles.Handles, Names.Names},
   Calls.Tree,
   FileFolder.find,
   Handles.{IsKept, IsTheOne},
@@ -53,5 +39,5 @@ MeasuresKept told old name (Err d) new = new.changed ≡ None
 abbrev pub OpensNames : {F : Type 0} → HandleGhosts F → (found : FileStat → Type 0) → Tree → (folder : List ℕ)
     → Handles F → Names F → Type 0
 OpensNames handle found t folder handles names = ((handle.opened names.folder).path ≡ folder)
-    × ((handle.opened names.folder ≡ record { path = folder; turn = t.turn; place = 0 })
+    × (((handle.opened names.folder).turn ≡ t.turn)
     ⊎ ((stat : FileStat) × found stat × (handles.names ≡ Some names) × IsTheOne names stat))

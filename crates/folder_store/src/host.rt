@@ -12,7 +12,7 @@ ghost use Rattle.folder_store.specs.{
   Under.{directory_under, front_of},
 };
 
-use crate::calls::{Access, FileCalls, FileKind, FileStat, OpenHandle};
+use crate::calls::{Access, FileCalls, FileKind, FileStat};
 use crate::exact_listing::{FolderNames, list_names};
 use crate::file_folder::{FileFolder, FolderState};
 use crate::handles::Handles;
