@@ -11,8 +11,8 @@ use Rattle.folder_store.specs.{
 }
 
 -- the handle by which a file was changed last is kept for its next change
-abbrev pub IsKept : {F : Type 0} → Handles F → (name : List ℕ) → Changed F → Type 0
-IsKept handles name c = (handles.changed ≡ Some c) × (string_bytes c.name ≡ name) × (handles.keeps_handle ≡ true)
+abbrev pub KeepsHandle : {F : Type 0} → Handles F → (name : List ℕ) → Changed F → Type 0
+KeepsHandle handles name c = (handles.changed ≡ Some c) × (string_bytes c.name ≡ name) × (handles.keeps_handle ≡ true)
 
 -- a folder that is open is the one that the system reports
 abbrev pub IsTheOne : {F : Type 0} → Names F → FileStat → Type 0

@@ -6,13 +6,13 @@ use Rattle.folder_store.specs.{
   declared.handles.{Changed.Changed, Handles.Handles, Names.Names},
   Calls.Tree,
   FileFolder.find,
-  Handles.{IsKept, IsTheOne},
+  Handles.{KeepsHandle, IsTheOne},
   Under.front_of,
 }
 
 -- it is known which folder is open, by what fstat(2) told of it
-abbrev pub IsKnown : {F : Type 0} → (F → FileStat → Type 0) → Names F → Type 0
-IsKnown told names = (stat : FileStat) × told names.folder stat × IsTheOne names stat
+abbrev pub IsAsTold : {F : Type 0} → (F → FileStat → Type 0) → Names F → Type 0
+IsAsTold told names = (stat : FileStat) × told names.folder stat × IsTheOne names stat
 
 -- while the system does what its calls promise, the file that was changed last is the one that its name leads to, and
 -- the open folder is that of the path; which folder that is was told of it
@@ -23,19 +23,19 @@ pub record KeptHolds {C M F : Type 0} (system : CallsGhosts C M F) (handle : Han
   pub there : (c : Changed F) → handles.changed ≡ Some c → system.sound calls
       → find (front_of folder ++ string_bytes c.name) (system.tree calls).directory.entries ≢ None
   pub names : (n : Names F) → handles.names ≡ Some n → system.sound calls → (handle.opened n.folder).path ≡ folder
-  pub which : (n : Names F) → handles.names ≡ Some n → IsKnown handle.told n
+  pub which : (n : Names F) → handles.names ≡ Some n → IsAsTold handle.told n
 
--- a file's size is what fstat(2) told of the handle that is kept then, which is the one that was kept before, if one was:
--- the file has a name still. After a refusal none is kept
+-- a file's size is what fstat(2) told of the handle that is kept then, the one that was kept before, if one was; and it
+-- told that the file has a name still. After a refusal none is kept
 abbrev pub MeasuresKept : {F : Type 0} → (F → FileStat → Type 0) → (old : Handles F) → (name : List ℕ)
     → Result ℕ Denial → (new : Handles F) → Type 0
 MeasuresKept {F = F} told old name (Ok len) new = (c : Changed F) × (stat : FileStat) × (new.changed ≡ Some c)
-    × (string_bytes c.name ≡ name) × ((was : Changed F) → IsKept old name was → c ≡ was)
+    × (string_bytes c.name ≡ name) × ((was : Changed F) → KeepsHandle old name was → c ≡ was)
     × told c.file stat × (stat.links ≢ 0) × (len ≡ stat.len)
 MeasuresKept told old name (Err d) new = new.changed ≡ None
 
--- a folder is open at a path: it is the one that the path leads to now, or the one that was kept, and stat(2) of the path
--- told just that one
+-- a folder is open at a path: it is the one that the path leads to now, or the one that was kept, and stat(2) of the
+-- path told just that one
 abbrev pub OpensNames : {F : Type 0} → HandleGhosts F → (found : FileStat → Type 0) → Tree → (folder : List ℕ)
     → Handles F → Names F → Type 0
 OpensNames handle found t folder handles names = ((handle.opened names.folder).path ≡ folder)

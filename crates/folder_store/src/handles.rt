@@ -1,7 +1,7 @@
 //! The files that a folder of a file system has open.
 
 ghost use Rattle.std.specs.{Prelude.{◌≡◌, ◌↔◌, IfNone, IfSome, IsTrue, None, Some, string_bytes}, Option.option_or};
-ghost use Rattle.folder_store.specs.Handles.{IsKept, IsTheOne, KeepsOrCloses};
+ghost use Rattle.folder_store.specs.Handles.{KeepsHandle, IsTheOne, KeepsOrCloses};
 
 use crate::calls::FileStat;
 use crate::watch::Watch;
@@ -106,8 +106,8 @@ impl<F: Drop> Handles<F> {
     /// The handle kept from the file's last change, if it is. Another is closed.
     pub fn take_kept(&mut self, name: &str) -> Option<Changed<F>>
         ensures taken { self.new ≡ record self.old { changed = None } }
-        ensures kept { IfSome result (IsKept self.old name.now) }
-        ensures none { IfNone result ((c : Changed F) → IsKept self.old name.now c → ⊥) }
+        ensures kept { IfSome result (KeepsHandle self.old name.now) }
+        ensures none { IfNone result ((c : Changed F) → KeepsHandle self.old name.now c → ⊥) }
     {
         let changed = self.take_changed(name)?;
         if self.keeps_handle {
@@ -121,7 +121,8 @@ impl<F: Drop> Handles<F> {
     pub fn take_changed(&mut self, name: &str) -> Option<Changed<F>>
         ensures taken { self.new ≡ record self.old { changed = None } }
         ensures last { IfSome result (λ c. (self.old.changed ≡ Some c) × (string_bytes c.name ≡ name.now)) }
-        ensures none { IfNone result ((c : Changed F) → self.old.changed ≡ Some c → string_bytes c.name ≡ name.now → ⊥) }
+        ensures none { IfNone result ((c : Changed F) → self.old.changed ≡ Some c
+            → string_bytes c.name ≡ name.now → ⊥) }
     {
         let changed = self.changed.take()?;
         if changed.name.as_str() == name {

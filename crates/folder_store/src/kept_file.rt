@@ -2,11 +2,12 @@
 
 ghost use Rattle.std.specs.Prelude.{◌≡◌, ◌-◌, ◌≤◌, None, Ok, IfOk, IfSome, OnOk, length, string_bytes, true};
 ghost use Rattle.folder_store.specs.{
-  Calls.{AppendsOpened, AppendsSome, Creates, FlushesFolder, OpensRegular, Renames, Syncs, SyncsNames, Truncates, answered},
+  Calls.{AppendsOpened, AppendsSome, Creates, FlushesFolder, OpensRegular, Renames, Syncs, SyncsNames},
+  Calls.{Truncates, answered},
   FileFolder.{AppendsTo, CutsTo, FlushesFile, TellsFileSize},
-  Handles.{FlushesTargets, IsKept, NotesFolder},
+  Handles.{FlushesTargets, KeepsHandle, NotesFolder},
   HostPaths.{folder_of, path_named},
-  Kept.{IsKnown, KeptHolds, MeasuresKept, OpensNames},
+  Kept.{IsAsTold, KeptHolds, MeasuresKept, OpensNames},
   Sound.{WhereFilesSound, WhereFilesStay},
   Watch.{AppendsWatched, ChecksWatched, CutsWatched, NotesWatched},
 };
@@ -80,7 +81,7 @@ fn handle_of<C: FileCalls>(
     ensures opens { WhereFilesStay C.sound C.tree calls.old calls.new
         (λ tree. OpensRegular (λ c. C.File.opened c.file) tree (path_named paths.now name.now) result) }
     ensures named { IfOk result (λ c. string_bytes c.name ≡ name.now) }
-    ensures keeps { (c : Changed C.File) → IsKept handles.old name.now c → result ≡ Ok c }
+    ensures keeps { (c : Changed C.File) → KeepsHandle handles.old name.now c → result ≡ Ok c }
     ensures others { handles.new ≡ record handles.old { changed = None } }
 {
     if let Some(changed) = handles.take_kept(name) {
@@ -409,7 +410,7 @@ fn names_of<C: FileCalls>(
     ensures opens { WhereFilesStay C.sound C.tree calls.old calls.new
         (λ tree. IfOk result (OpensNames C.File.OpenHandle (C.told_at calls.new (folder_of paths.now)) tree
         (folder_of paths.now) handles.old)) }
-    ensures which { IfOk result (IsKnown C.File.told) }
+    ensures which { IfOk result (IsAsTold C.File.told) }
     ensures others { handles.new ≡ record handles.old { names = None } }
 {
     let kept = handles.names.take();

@@ -19,12 +19,13 @@ returns-in-Some-clause-flushes g c = λ s.
 pub returns-in-Some-clause-kept : goal.returns-in-Some-clause-kept
 returns-in-Some-clause-kept g c =
     let last = c.in-Some.ensures.last in
+    let names = ap (λ (h : Handles _). h.names) c.take_changed.ensures.taken in
     ⊎_elim (λ closed. keeps_none g.C.FileCalls g.C.File.OpenHandle (folder_of c.args.paths.now) c.args.calls.now
     c.flush_watched-answer.new.calls c.args.handles.now c.keep_flushed.new.self c.requires
-    (λ s. (c.flush_watched-answer.ensures.flushes s).0) closed (c.keep_flushed.ensures.1 ∙ ap (λ (h : Handles _). h.names) c.take_changed.ensures.taken))
+    (λ s. (c.flush_watched-answer.ensures.flushes s).0) closed (c.keep_flushed.ensures.1 ∙ names))
     (λ is. keeps_open g.C.FileCalls g.C.File.OpenHandle (folder_of c.args.paths.now) c.args.calls.now
     c.flush_watched-answer.new.calls c.args.handles.now c.keep_flushed.new.self c.in-Some.changed c.requires
-    (λ s. (c.flush_watched-answer.ensures.flushes s).0) is (c.keep_flushed.ensures.1 ∙ ap (λ (h : Handles _). h.names) c.take_changed.ensures.taken)
+    (λ s. (c.flush_watched-answer.ensures.flushes s).0) is (c.keep_flushed.ensures.1 ∙ names)
     (λ s.
     let done = c.flush_watched-answer.ensures.flushes s in
     let first = kept_opens g.C.FileCalls g.C.File.OpenHandle (folder_of c.args.paths.now) c.args.calls.now c.args.handles.now
@@ -38,5 +39,6 @@ returns-in-Some-clause-kept g c =
 pub returns-in-None-clause-kept : goal.returns-in-None-clause-kept
 returns-in-None-clause-kept g c = keeps_none g.C.FileCalls g.C.File.OpenHandle (folder_of c.args.paths.now) c.args.calls.now
     c.flush_anew.new.calls c.args.handles.now c.flush_anew.new.handles c.requires
-    (λ s. (c.flush_anew.ensures.flushes s).0) (c.flush_anew.ensures.others.0 ∙ ap (λ (h : Handles _). h.changed) c.take_changed.ensures.taken)
+    (λ s. (c.flush_anew.ensures.flushes s).0)
+    (c.flush_anew.ensures.others.0 ∙ ap (λ (h : Handles _). h.changed) c.take_changed.ensures.taken)
     (c.flush_anew.ensures.others.1 ∙ ap (λ (h : Handles _). h.names) c.take_changed.ensures.taken)
