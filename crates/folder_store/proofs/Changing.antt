@@ -13,8 +13,8 @@ use Rattle.mail_store.specs.{
   DiskCalls.{appended, cut, doubted, flushed},
 }
 use Rattle.folder_store.specs.{
-  declared.{calls.{FileCalls.Ghosts as CallsGhosts, OpenHandle.Ghosts as HandleGhosts}, handles.{Changed.{Changed}, Handles.{Handles}}},
-  Kept.{KeptHolds},
+  declared.{calls.{FileCalls.Ghosts as CallsGhosts, OpenHandle.Ghosts as HandleGhosts}, handles.{Changed.{Changed}, Handles.{Handles}, Names.{Names}}},
+  Kept.{IsAsTold, KeptHolds},
   Under.{front_of},
   FileFolder.{Directory, DirEntry, LacksFile, content_at, entry, find, placed, with_blob, AltersInPart, AppendsTo, CutsTo, FlushesFile},
   FileFolder.{MeasuresFile, ReadsFile, ReadsPiece, TellsFileSize},
@@ -243,6 +243,19 @@ module _ {C M F : Type 0} (system : CallsGhosts C M F) (handle : HandleGhosts F)
     there = λ c at s. absurd (true≢false (ap is_some (sym at ∙ is)));
     names = λ n at s. k.names n (sym names ∙ at) (back s);
     which = λ n at. k.which n (sym names ∙ at);
+  }
+
+  -- the folder whose names were flushed stays open
+  pub keeps_names : (before after : C) (g h : Handles F) (x : Names F) → KeptHolds system handle before folder g
+      → (system.sound after → system.sound before × ((system.tree after).turn ≡ (system.tree before).turn)
+      × ((system.tree after).directory.entries ≡ (system.tree before).directory.entries) × ((handle.opened x.folder).path ≡ folder))
+      → h.changed ≡ g.changed → h.names ≡ Some x → IsAsTold handle.told x → KeptHolds system handle after folder h
+  keeps_names before after g h x k stays same is told = record {
+    changed = λ c at s. let (held, turn, _, _) = stays s in rw turn (k.changed c (sym same ∙ at) held);
+    there = λ c at s. let (held, _, entries, _) = stays s in rw entries (k.there c (sym same ∙ at) held);
+    names = λ n at s. let (_, _, _, path) = stays s in
+        subst (λ (y : Names F). (handle.opened y.folder).path ≡ folder) (same_Some x n (sym is ∙ at)) path;
+    which = λ n at. subst (λ (y : Names F). IsAsTold handle.told y) (same_Some x n (sym is ∙ at)) told;
   }
 
 -- ---- what is only read

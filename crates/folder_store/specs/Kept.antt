@@ -12,7 +12,7 @@ use Rattle.folder_store.specs.{
 
 -- it is known which folder is open, by what fstat(2) told of it
 abbrev pub IsAsTold : {F : Type 0} → (F → FileStat → Type 0) → Names F → Type 0
-IsAsTold told names = (stat : FileStat) × told names.folder stat × IsTheOne names stat
+IsAsTold told names = ∥ ((stat : FileStat) × told names.folder stat × IsTheOne names stat) ∥₁
 
 -- while the system does what its calls promise, the file that was changed last is the one that its name leads to, and
 -- the open folder is that of the path; which folder that is was told of it
