@@ -3,11 +3,11 @@
 use Rattle.std.{
   proofs.Common.{◌≡◌, inl, inr, ℕ, List, [], ◌∷◌, Bool, true, false, cond, refl, sym, ap, subst, ◌∙◌, Option, Some, None, not},
   proofs.lemmas.{Bool.or_left, Slice.Eq.bytes_eq-Decides},
-  specs.{List.filter, Prelude.{bytes_eq, option_map}},
+  specs.{List.filter, Prelude.option_map},
 }
 use Rattle.mail_terms.specs.MaildirName.{base}
 use Rattle.mail_store.specs.{
-  Durable.{Disk, DurableIsLeft, IsDurable, IsFlushed, MayLeave, content_in, secured, seen_on},
+  Durable.{DurableIsLeft, IsDurable, IsFlushed, MayLeave, content_in, secured},
   Maildir.{File, names_of},
 }
 use Rattle.folder_store.{
