@@ -13,7 +13,8 @@ use Rattle.mail_store.specs.{
   DiskCalls.{appended, cut, doubted, flushed},
 }
 use Rattle.folder_store.specs.{
-  declared.{calls.{FileCalls.Ghosts as CallsGhosts, OpenHandle.Ghosts as HandleGhosts}, handles.{Changed.{Changed}, Handles.{Handles}, Names.{Names}}},
+  declared.calls.{FileCalls.Ghosts as CallsGhosts, OpenHandle.Ghosts as HandleGhosts},
+  declared.handles.{Changed.{Changed}, Handles.{Handles}, Names.{Names}},
   Kept.{IsAsTold, KeptHolds},
   Under.{front_of},
   FileFolder.{Directory, DirEntry, LacksFile, content_at, entry, find, placed, with_blob, AltersInPart, AppendsTo, CutsTo, FlushesFile},
