@@ -75,6 +75,7 @@ EXCUSES = {
     "TellsRest": "a folder didn't rest",
     "Flushes": "a stem has no file any more",
     "FlushesFiles": "a stem has no file any more",
+    "FlushesPass": "a stem has a file that was moved during a pass",
     "FailsReading": "memory ran out",
 }
 UNCOVERED = """\

@@ -39,7 +39,7 @@ CASES = {
     "stat": ("never listed", "rests", "changed"),
     "list": ("new", "cur", "something went"),
     "list-all": ("new", "cur", "something went"),
-    "flush-files": ("one", "several"),
+    "flush-pass": ("one", "several", "one without a file"),
     "fsync-folder": ("new", "cur"),
     "other": ("to cur", "to new", "another mark", "away from new", "away from cur"),
 }
@@ -227,16 +227,12 @@ class Builder(CallList):
         self.files = self.there()
         self.rests[folder] = True
 
-    def flush_files(self):
+    def flush_pass(self):
         self.let_reader_move()
-        bases = sorted({file.base for file in self.there()})
-        chosen = self.source.sample(bases, min(len(bases), self.source.choice((1, 2)))) if bases else []
-        if not chosen:
-            # The reader's step is that of another call.
-            self.add("stat", "-", "new", {None: "never listed", True: "rests", False: "changed"}[self.rests["new"]])
-            return
-        stems = [base.split(",")[0] for base in chosen]
-        self.add("flush-files", "-", " ".join(stems), "one" if len(stems) == 1 else "several")
+        bases = {file.base for file in self.there()}
+        chosen = self.source.sample(NAMES[:3], self.source.choice((1, 2)))
+        case = ("one" if len(chosen) == 1 else "several") if bases.issuperset(chosen) else "one without a file"
+        self.add("flush-pass", "-", " ".join(base.split(",")[0] for base in chosen), case)
 
     def fsync_folder(self):
         self.let_reader_move()
@@ -247,15 +243,14 @@ class Builder(CallList):
 
     def choices(self):
         """The calls that can be made now, as often as they shall come."""
-        calls = [*[self.create] * 3, self.stat_name, self.open, self.lstat, *[self.stat] * 2, self.list, self.fsync_folder]
+        calls = [*[self.create] * 3, self.stat_name, self.open, self.lstat, *[self.stat] * 2, self.list, self.flush_pass,
+                 self.fsync_folder]
         if self.ready:
             calls += [*[self.write] * 2, self.flush, *[self.link] * 4, *[self.rename] * 3]
         if self.ready or self.linked:
             calls.append(self.unlink)
         if any(self.opened):
             calls.append(self.fstat)
-        if self.there():
-            calls.append(self.flush_files)
         return calls
 
     def end(self):

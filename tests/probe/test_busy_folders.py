@@ -91,10 +91,11 @@ class BusyList:
         there = [found] if folder == "cur" or name in self.texts else []
         self.add(f"{call} - {folder}/{name}{':2,S' * (folder == 'cur')}", "absent", *there)
 
-    def flush_files(self):
-        """Those that go away all the time may be refused."""
-        names = [name for name in (self.any_name(), self.any_name()) if not may_go(name)] or [name_of(STAYING[0])]
-        self.add(f"flush-files - {' '.join(name.split(',')[0] for name in names)}", "yes", "refused")
+    def flush_pass(self):
+        """It may leave what is moved meanwhile."""
+        names = {self.any_name(), self.any_name()}
+        self.add(f"flush-pass - {' '.join(name.split(',')[0] for name in names)}", "refused",
+                 *(f"left {count}" for count in range(len(names) + 1)))
 
     def folder(self):
         return self.source.choice(("new", "cur"))
@@ -111,7 +112,7 @@ class BusyList:
 
     def grow(self, count):
         for _ in range(count):
-            self.source.choice((self.put, self.put, self.look, self.look, self.flush_files, self.stat, self.fsync_folder,
+            self.source.choice((self.put, self.put, self.look, self.look, self.flush_pass, self.stat, self.fsync_folder,
                                 self.list, self.list))()
 
 
@@ -155,7 +156,7 @@ class BusyFolders(unittest.TestCase):
             elif not call.startswith("list"):
                 self.assertIn(answer, allowed, line)
             seen[call, answer == "refused"] += 1
-        for call in ("list", "list-all", "flush-files"):
+        for call in ("list", "list-all", "flush-pass"):
             self.assertTrue(seen[call, False], call)
 
     def check_files(self, folder, texts):

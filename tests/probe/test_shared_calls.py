@@ -11,7 +11,7 @@ import unittest
 
 from probe.comparing import answers, compare, compare_random
 from probe.shared_lists import CASES, MARKS, ODD, make_maildir, random_list, text_of
-from probe.watched import folder_for, stem_of
+from probe.watched import folder_for
 
 # Each listing of a folder waits for a step of the clock.
 COUNT = int(os.environ.get("CALL_LISTS", "150"))
@@ -33,7 +33,6 @@ def octets_in(folder):
 # What the model has in another way: a call in folders with what can't be opened, and what the system and the model answer.
 OUTSIDE = {
     "all names, whatever they lead to": ("list-all - new", f"names {ODD}", "names"),
-    "the flush of a file that isn't there": (f"flush-files - {stem_of(1)}", "refused", "yes"),
 }
 
 

@@ -1,8 +1,8 @@
 -- What follows several calls that use the folders of a Maildir.
 use Rattle.std.proofs.Common.{◌≡◌, ⊎_elim, ℕ, List, Bool, true, refl, sym, ap, ◌∙◌, subst, Result, Ok, Err}
-use Rattle.std.proofs.Common.{◌++◌, ◌∷◌, [], append_assoc, append-nil, cond, map, not}
-use Rattle.std.proofs.lemmas.List.Elements.{filter-append}
-use Rattle.std.specs.Prelude.{IfOk, string_bytes}
+use Rattle.std.proofs.Common.{◌<◌, ◌+◌, ◌≢◌, ◌++◌, ◌∷◌, [], append_assoc, append-nil, arith, cond, length, map, not, suc}
+use Rattle.std.proofs.lemmas.List.{Elements.filter-append, length-map}
+use Rattle.std.specs.{Prelude.{IfOk, Vec, string_bytes, vec_len}, Borrow.Bor}
 use Rattle.mail_terms.specs.UniqueId.{has_id}
 use Rattle.mail_store.specs.declared.maildir.disk.Folder.{Folder, TheVariants.{New, Cur}}
 use Rattle.folder_store.specs.declared.{
@@ -18,7 +18,7 @@ use Rattle.folder_store.specs.{
   HostAnswers.{refuses_links},
   MailCalls.{MakesDraft, Then, TellsFiles, file_names, odd_names},
   MailFolders.{Directories, Moved, odd_names_in, unopened_in},
-  SharedCalls.{AddsNames, Did, IsOpenedAs, IsSame, Links, Shared},
+  SharedCalls.{AddsNames, Did, AreUnflushed, IsOpenedAs, IsSame, LeavesSome, LeftAfter, Links, Shared, borrowed_texts},
 }
 use Rattle.folder_store.proofs.{MailMoves.{on, rest}, Refusing.{missing_absent}}
 
@@ -164,3 +164,25 @@ tells_both a b c in_new in_cur x y z no_files no_odd first then new cur =
         ),
       ),
     )
+
+-- ---- passes
+
+-- no stem is among none
+texts_some : {A : Type 0} (left : Vec (Bor (List ℕ)) A) → 0 < vec_len left → borrowed_texts left.items ≢ []
+texts_some left some none = omega (arith, some, ap length none, length-map left.items (λ (t : Bor (List ℕ)). t.now), left.ok)
+
+-- one more pass
+pub left_next : (left : LeftAfter) (stems : List (List ℕ)) (passes : ℕ) (some : List (List ℕ)) → left stems (passes + 1) some
+    → AreUnflushed left stems (passes + 1) some
+left_next left stems passes some is =
+    let e : passes + 1 ≡ suc passes = omega arith in
+    subst (λ (n : ℕ). AreUnflushed left stems n some) (sym e) (subst (λ (n : ℕ). left stems n some) e is)
+
+-- eight passes
+pub left_eight : {A : Type 0} (left : LeftAfter) (stems : List (List ℕ)) (passes : ℕ) (some : Vec (Bor (List ℕ)) A)
+    → passes ≡ 8 → (0 < passes → 0 < vec_len some) → AreUnflushed left stems passes (borrowed_texts some.items) → LeavesSome (left stems)
+left_eight left stems passes some eight are is = (
+  borrowed_texts some.items,
+  texts_some some (are (omega (arith, eight))),
+  subst (λ (n : ℕ). AreUnflushed left stems n (borrowed_texts some.items)) eight is,
+)

@@ -1,11 +1,12 @@
 -- What each single call does to the folders of a Maildir that others use too, for either outcome, as POSIX and Linux
 -- have it. Names are here those in a folder.
 use Rattle.std.specs.{
-  Prelude.{◌≡◌, ◌≢◌, ◌⊎◌, ◌==◌, ◌-◌, ◌<◌, ◌↔◌, ◌&&◌, ℕ, Bool, false, true, IsTrue, List, ◌++◌, Option, None, Some},
-  Prelude.{map, string_bytes, Result, Ok, Err, if◌then◌else◌},
+  Prelude.{◌≡◌, ◌≢◌, ◌⊎◌, ◌==◌, ◌+◌, ◌-◌, ◌<◌, ◌↔◌, ◌&&◌, ℕ, zero, Bool, false, true, IsTrue, List, [], ◌++◌},
+  Prelude.{Option, None, Some, map, String, string_bytes, Result, Ok, Err, Vec, vec_len, if◌then◌else◌},
+  Borrow.Bor,
   Duration.as_nanos,
   IoError.error_kind,
-  declared.{io.ErrorKind.{ErrorKind, TheVariants.NotFound}, time.Duration.Duration},
+  declared.{io.ErrorKind.{ErrorKind, TheVariants.{NotFound, OutOfMemory}}, time.Duration.Duration},
 }
 use Rattle.system_calls.specs.declared.refusal.Denial.{Denial}
 use Rattle.mail_terms.specs.UniqueId.{has_id}
@@ -22,7 +23,7 @@ use Rattle.folder_store.specs.{
   Calls.{IsAbsent, flushes_none},
   FileFolder.MadeFile,
   HostAnswers.{IsFolder, refuses_links, tells_odd},
-  MailCalls.{ListsIn, PutsIntoNew, Then, file_names, names_flushed_in, odd_names},
+  MailCalls.{FlushesFiles, ListsIn, PutsIntoNew, Then, file_names, names_flushed_in, odd_names},
   MailFolders.{Directories, odd_names_in, rests_in, unknown_directories, unopened_in},
 }
 
@@ -115,6 +116,32 @@ SyncsFolder folder (Err d) old new = (flushes_none (error_kind d.error) ≡ fals
     × (((new ≡ old) × (IsAbsent d → is_there old.there folder ≡ false))
     ⊎ ((IsAbsent d → ⊥) × (new ≡ names_flushed_in folder old)))
 
+-- texts that were lent
+abbrev pub borrowed_texts : List (Bor (List ℕ)) → List (List ℕ)
+borrowed_texts texts = map (λ text. text.now) texts
+
+-- some stems are left after so many passes for the files of all these, one just after the other; none is done before
+-- the first
+abbrev pub LeftAfter : Type 1
+LeftAfter = (stems : List (List ℕ)) → (passes : ℕ) → (left : List (List ℕ)) → Type 0
+
+abbrev pub AreUnflushed : LeftAfter → List (List ℕ) → ℕ → List (List ℕ) → Type 0
+AreUnflushed was_left stems zero left = left ≡ stems
+AreUnflushed was_left stems passes left = was_left stems passes left
+
+-- a pass more: which stems it left, or why it was denied, is known of the state after it
+abbrev pub LeavesStems : {A : Type 0} → (before : LeftAfter) → (stems left : List (List ℕ))
+    → Result (Vec (Bor (List ℕ)) A) Denial → (after : LeftAfter) → (denied : Denial → Type 0) → Type 0
+LeavesStems before stems left (Ok still) after denied =
+    (passes : ℕ) → AreUnflushed before stems passes left → after stems (passes + 1) (borrowed_texts still.items)
+LeavesStems before stems left (Err d) after denied = denied d
+
+-- a pass through both folders: the bytes of each file with one of these stems are durable, if it leaves none of them
+abbrev pub FlushesPass : {A B : Type 0} → List (String A) → Result (Vec (Bor (List ℕ)) B) Denial → Directories
+    → Directories → Type 0
+FlushesPass stems (Ok left) old new = FlushesFiles stems (Ok (vec_len left == 0)) old new
+FlushesPass stems (Err d) old new = new ≡ old
+
 -- ---- a system of which nothing is known
 
 abbrev pub unknown_shared : Shared
@@ -152,3 +179,16 @@ abbrev pub MayListAgain : Option Duration → ℕ → (old : Duration) → Bool 
 MayListAgain None times old may new = may ≡ false
 MayListAgain (Some now) times old may new = (new ≡ (if times == 0 then now else old))
     × (IsTrue may ↔ as_nanos now - as_nanos new < 4_000_000_000)
+
+-- after eight passes some of the stems are left
+abbrev pub LeavesSome : (left : ℕ → List (List ℕ) → Type 0) → Type 0
+LeavesSome left = (some : List (List ℕ)) × (some ≢ []) × left 8 some
+
+-- how passes end, but where none of the stems is left: after eight some are, which is refused unless this may be; or a
+-- pass was denied, or memory ran out
+abbrev pub EndsPasses : (left : ℕ → List (List ℕ) → Type 0) → (denied : Denial → Type 0) → (may_miss : Bool)
+    → Result Bool Denial → Type 0
+EndsPasses left denied may_miss (Ok true) = Unit {0}
+EndsPasses left denied may_miss (Ok false) = (may_miss ≡ true) × LeavesSome left
+EndsPasses left denied may_miss (Err d) =
+    denied d ⊎ (error_kind d.error ≡ OutOfMemory) ⊎ ((may_miss ≡ false) × LeavesSome left)

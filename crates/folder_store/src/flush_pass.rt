@@ -1,8 +1,15 @@
 //! Which files are still to be flushed after a pass through the folders of a Maildir.
 
-ghost use Rattle.std.specs.{Prelude.{◌≡◌, ℕ, List, ◌||◌, bytes_eq, not, IfOk, OnOk}, List.filter};
+ghost use Rattle.std.specs.{
+  Prelude.{◌≡◌, ℕ, List, ◌||◌, bytes_eq, map, not, string_bytes, IfOk, OnOk},
+  List.filter,
+};
 ghost use Rattle.mail_store.specs.{FileName.stem, Held.has_text};
-ghost use Rattle.folder_store.specs.{FlushPass.{has_flushed, has_missed, was_flushed}, Wanted.has_octets};
+ghost use Rattle.folder_store.specs.{
+  FlushPass.{has_flushed, has_missed, was_flushed},
+  SharedCalls.borrowed_texts,
+  Wanted.has_octets,
+};
 
 use mail_store::stem;
 use std::alloc::{AllocError, Global};
@@ -14,6 +21,17 @@ pub struct Found {
     pub name: String,
     /// Whether it was flushed; else it had gone from there.
     pub is_flushed: bool,
+}
+
+/// These texts.
+pub fn texts_of(alloc: Global, texts: &[String]) -> Result<Vec<&str>, AllocError>
+    ensures { IfOk result (λ all. borrowed_texts all.items ≡ map string_bytes texts.now) }
+{
+    let mut all = Vec::new(alloc);
+    for text in texts {
+        all.push(text.as_str())?;
+    }
+    Ok(all)
 }
 
 /// Adds a text.

@@ -16,7 +16,7 @@ use crate::mail_folders::{FoundNames, MailFolders, Sought};
 use crate::new_file::{CallsNewFile, answer_of};
 use crate::process_mark::ProcessMark;
 use crate::shared_calls::SharedCalls;
-use crate::shared_folders::{check_folder, check_rest, flush_names, look_up, put_new};
+use crate::shared_folders::{check_folder, check_rest, flush_files, flush_names, look_up, put_new};
 use mail_store::{Folder, StoreFault};
 use std::alloc::Global;
 use std::rt::Files;
@@ -176,7 +176,7 @@ impl<'a, S: SharedCalls + Drop> MailFolders for CallsFolders<'a, S> {
     }
 
     fn flush_files(&mut self, stems: &[String], may_miss: bool) -> Result<bool, StoreFault> {
-        let answer = self.calls.flush_files(stems, may_miss);
+        let answer = flush_files(self.alloc, &mut self.calls, stems, may_miss);
         answer_of(self.refusals, answer)
     }
 

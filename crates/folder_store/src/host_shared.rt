@@ -1,6 +1,6 @@
 //! The machine's file system, call by call, as the folders of a Maildir ask it.
 
-ghost use Rattle.std.specs.Prelude.{◌≡◌, IfOk, Ok, false, map, string_bytes, true};
+ghost use Rattle.std.specs.Prelude.{◌≡◌};
 ghost use Rattle.folder_store.specs.SharedCalls.{unknown_shared};
 
 use crate::calls::{Access, FileCalls, FileStat};
@@ -12,14 +12,10 @@ use crate::mail_folders::Sought;
 use crate::shared_calls::{ListedNames, SharedCalls};
 use crate::wanted::Wanted;
 use mail_store::{Folder, stem};
-use std::alloc::{AllocError, Global};
 use std::collections::BTreeSet;
 use std::rt::Files;
 use std::time::{Clock, Duration};
 use system_calls::{Denial, OpenAt, System};
-
-/// How many times files that are to be flushed are looked up while readers move them.
-const MOST_PASSES: u32 = 8;
 
 /// The two folders of a Maildir over single calls, and what was seen in them.
 #[derive(Drop)]
@@ -58,28 +54,6 @@ impl<'a, R: Files + Clock + AllocGlobal + Clone + Drop> CallsShared<'a, R, HostC
         Ok(found)
     }
 
-    // Flushes the files that have one of these stems. False, only if `may_miss`, if one of the stems has none, or
-    // readers move its files all the time.
-    fn sync_all_of(&mut self, stems: &[String], may_miss: bool) -> Result<bool, Denial>
-        ensures { result ≡ Ok false → may_miss ≡ true }
-    {
-        let mut left = texts_of(self.system.alloc(), stems)?;
-        for _ in 0..MOST_PASSES {
-            let found = self.sync_pass(Wanted::Stems(stems), &left)?;
-            left = unsettled(self.system.alloc(), &left, &found)?;
-            if left.is_empty() {
-                return Ok(true);
-            }
-        }
-        if may_miss {
-            return Ok(false);
-        }
-        Err(
-            self.new_folder
-                .folder_refusal("files to be flushed go away all the time"),
-        )
-    }
-
     // The calls of the whole file system.
     fn calls(&self) -> HostCalls<'a, R>
         ensures { result.system ≡ self.now.system }
@@ -108,16 +82,6 @@ impl<'a, R: Files + Clock + AllocGlobal + Clone + Drop> CallsShared<'a, R, HostC
             Folder::Cur => &mut self.cur_folder,
         }
     }
-}
-
-fn texts_of(alloc: Global, texts: &[String]) -> Result<Vec<&str>, AllocError>
-    ensures { IfOk result (λ all. map (λ text. text.now) all.items ≡ map string_bytes texts.now) }
-{
-    let mut all = Vec::new(alloc);
-    for text in texts {
-        all.push(text.as_str())?;
-    }
-    Ok(all)
 }
 
 /// Flushes those of a folder's files that have one of these stems. What can't be opened is none.
@@ -150,6 +114,10 @@ impl<'a, R: Files + Clock + AllocGlobal + Clone + Drop> SharedCalls
     ghost was_file = { λ _ _ _. ⊥ };
 
     ghost was_refused = { λ _ _ _ _. ⊥ };
+
+    ghost was_left = { λ _ _ _ _. ⊥ };
+
+    ghost was_denied = { λ _ _. ⊥ };
 
     // Of the file system nothing is known.
     ghost sound = { λ _. ⊥ };
@@ -184,9 +152,13 @@ impl<'a, R: Files + Clock + AllocGlobal + Clone + Drop> SharedCalls
         Ok(FileStat::of(&self.folder(folder).look_up(name)?))
     }
 
-    // A file that a reader moves meanwhile is looked up again.
-    fn flush_files(&mut self, stems: &[String], may_miss: bool) -> Result<bool, Denial> {
-        self.sync_all_of(stems, may_miss)
+    fn flush_pass<'b>(
+        &mut self,
+        stems: &[String],
+        left: &[&'b str],
+    ) -> Result<Vec<&'b str>, Denial> {
+        let found = self.sync_pass(Wanted::Stems(stems), left)?;
+        Ok(unsettled(self.system.alloc(), left, &found)?)
     }
 
     fn create(&mut self, name: &str) -> Result<OpenAt<R::File>, Denial> {

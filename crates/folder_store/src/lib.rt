@@ -38,6 +38,7 @@ pub use durable_names::list_both;
 pub use exact_listing::ChangeTime;
 pub use file::{HostFile, new_files_keep_bytes};
 pub use file_folder::{FileFolder, FolderState, NewFile};
+pub use flush_pass::texts_of;
 pub use host::{CallsFolder, HostFolder};
 pub use host_calls::HostCalls;
 pub use host_folders::{CallsFolders, HostFolders};

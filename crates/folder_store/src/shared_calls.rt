@@ -17,13 +17,21 @@ pub struct ListedNames {
 /// A file system, as one device asks it for the folders `new` and `cur` of a Maildir, each call of which may be
 /// refused. Readers may move files between the two, change their marks and take files away before each call.
 pub trait SharedCalls {
-    ghost use Rattle.std.specs.{Prelude.{◌≡◌, ℕ, List, false, true, IfErr, IfOk, Ok}, declared.io.ErrorKind.ErrorKind};
+    ghost use Rattle.std.specs.{
+      Prelude.{◌≡◌, ℕ, List, IfErr, IfOk, map, string_bytes},
+      declared.io.ErrorKind.ErrorKind,
+    };
+    ghost use Rattle.system_calls.specs.declared.refusal.Denial.{Denial};
     ghost use Rattle.mail_store.specs.declared.maildir.disk.Folder.{Folder};
-    ghost use Rattle.folder_store.specs.MailCalls.{FlushesFiles, PutsDraft};
+    ghost use Rattle.folder_store.specs.MailCalls.{PutsDraft};
     ghost use Rattle.folder_store.specs.Calls.{Creates, IsAbsent, answered};
     ghost use Rattle.folder_store.specs.SharedCalls.{
+      AreUnflushed,
       Did,
+      FlushesPass,
       IsSame,
+      LeavesStems,
+      LeftAfter,
       Links,
       ListsShared,
       LstatsName,
@@ -35,6 +43,7 @@ pub trait SharedCalls {
       was_odd,
       was_unopened,
       listed_in,
+      borrowed_texts,
     };
 
     type Made: MadeHandle + Drop;
@@ -53,6 +62,13 @@ pub trait SharedCalls {
 
     // A name in a folder for which stat(2) or open(2) was refused, and how, by the call before.
     ghost was_refused: { Self → Folder → List ℕ → ErrorKind → Type 0 };
+
+    // The stems that are left of these after so many passes for their files, one just after the other, up to the call
+    // before.
+    ghost was_left: { Self → LeftAfter };
+
+    // Why a pass was refused, the call before.
+    ghost was_denied: { Self → Denial → Type 0 };
 
     // The premise: so far the system did what its calls promise, flushed folders when it was asked to, and others did
     // nothing but move, mark and take away files, and gave no name in `new` between lstat(2) of it and rename(2) to it.
@@ -99,12 +115,16 @@ pub trait SharedCalls {
             (was_unopened (shared self.old).directories folder name.now)
             (was_odd (shared self.old).directories folder name.now) };
 
-    /// Flushes the bytes of each file whose name has one of these stems, by listings, and open(2) and fsync(2) of each.
-    /// False, only if `may_miss`, if one of them has no file.
-    fn flush_files(&mut self, stems: &[String], may_miss: bool) -> Result<bool, Denial>
-        ensures flushes { sound self.new → sound self.old
-            × Did (FlushesFiles stems.now (answered result)) (shared self.old) (shared self.new) }
-        ensures misses { result ≡ Ok false → may_miss ≡ true };
+    /// One pass for the files of these stems, of which the passes just before left some: lists both folders, and each
+    /// file there that has a stem left is opened by open(2), and flushed by fsync(2). Tells which stems are left still:
+    /// those of which no file was found, or one that wasn't there any more.
+    fn flush_pass<'a>(&mut self, stems: &[String], left: &[&'a str]) -> Result<Vec<&'a str>, Denial>
+        requires { sound self.old → (passes : ℕ)
+            × AreUnflushed (was_left self.old) (map string_bytes stems.now) passes (borrowed_texts left.now) }
+        ensures { sound self.new → sound self.old
+            × Did (FlushesPass stems.now result) (shared self.old) (shared self.new)
+            × LeavesStems (was_left self.old) (map string_bytes stems.now) (borrowed_texts left.now) result
+            (was_left self.new) (was_denied self.new) };
 
     /// open(2) with O_CREAT, O_EXCL and O_WRONLY in `tmp`, for the owner alone, to be put under a name.
     fn create(&mut self, name: &str) -> Result<Self::Made, Denial>

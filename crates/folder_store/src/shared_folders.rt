@@ -1,19 +1,20 @@
 //! What a device of a Maildir's folders does in several calls.
 
 ghost use Rattle.std.specs.{
-  Prelude.{◌≡◌, ◌↔◌, ◌<◌, IsTrue, OnOk, Some, [], ◌∷◌, map, string_bytes},
+  Prelude.{◌≡◌, ◌↔◌, ◌<◌, IsTrue, Ok, OnOk, Some, [], ◌∷◌, false, map, string_bytes, true},
   Duration.as_nanos,
   IoError.error_kind,
 };
 ghost use Rattle.folder_store.specs.{
   Calls.answered,
   HostAnswers.refuses_links,
-  MailCalls.{ChecksIn, FlushesNamesIn, PutsDraft, TellsFiles, TellsRest},
-  SharedCalls.{AddsNames, Did, IsSame, MayListAgain, listed_in},
+  MailCalls.{ChecksIn, FlushesFiles, FlushesNamesIn, PutsDraft, TellsFiles, TellsRest},
+  SharedCalls.{AddsNames, Did, EndsPasses, IsSame, MayListAgain, listed_in},
 };
 
 use crate::calls::FileKind;
 use crate::exact_listing::ChangeTime;
+use crate::flush_pass::texts_of;
 use crate::listed_names::{Lead, look_at};
 use crate::mail_folders::FoundNames;
 use crate::opened_file::IRREGULAR;
@@ -27,6 +28,9 @@ use system_calls::Denial;
 
 /// For how many seconds the folders are listed again while readers change them all the time.
 const MOST_SECONDS: u64 = 4;
+
+/// How many times files that are to be flushed are looked up while readers move them.
+const MOST_PASSES: u32 = 8;
 
 /// Whether the folders are listed once more, this long after the first time.
 fn may_list_both(passed: Duration) -> bool
@@ -224,6 +228,32 @@ pub fn put_new<S: SharedCalls>(calls: &mut S, file: &S::Made, name: &str) -> Res
         let _ = calls.unlink(file);
     }
     answer
+}
+
+/// Flushes the bytes of each file whose name has one of these stems, by passes, at most eight, until none of these is
+/// left. False, only if `may_miss`, if one of them is.
+pub fn flush_files<S: SharedCalls>(
+    alloc: Global,
+    calls: &mut S,
+    stems: &[String],
+    may_miss: bool,
+) -> Result<bool, Denial>
+    ensures flushes { S.sound calls.new → S.sound calls.old
+        × Did (FlushesFiles stems.now (answered result)) (S.shared calls.old) (S.shared calls.new)
+        × EndsPasses (S.was_left calls.new (map string_bytes stems.now)) (S.was_denied calls.new) may_miss result }
+    ensures misses { result ≡ Ok false → may_miss ≡ true }
+{
+    let mut left = texts_of(alloc, stems)?;
+    for _ in 0..MOST_PASSES {
+        left = calls.flush_pass(stems, &left)?;
+        if left.is_empty() {
+            return Ok(true);
+        }
+    }
+    if may_miss {
+        return Ok(false);
+    }
+    Err(calls.folder_refusal(Folder::New, "files to be flushed go away all the time"))
 }
 
 /// Flushes the names of a folder. False if its file system flushes no folders.

@@ -8,7 +8,7 @@ use crate::stores::{listing_of, mark_of};
 use crate::trouble::{Result, Trouble};
 use folder_store::{
     CallsFolder, CallsShared, ChangeTime, FileKind, FileStat, HostShared, MadeHandle, SharedCalls,
-    Sought,
+    Sought, texts_of,
 };
 use mail_store::{AccountId, Asked, Folder, account_id};
 use mail_terms::Listing;
@@ -86,11 +86,10 @@ fn tell_names(answers: &mut Vec<u8>, names: &[String]) -> Result<()> {
     Ok(())
 }
 
-/// Adds an answer of yes or no.
-fn tell_whether(answers: &mut Vec<u8>, answer: std::result::Result<bool, Denial>) -> Result<()> {
+/// Adds the stems that a pass left.
+fn tell_left(answers: &mut Vec<u8>, answer: std::result::Result<Vec<&str>, Denial>) -> Result<()> {
     match answer {
-        Ok(true) => writeln!(answers, "yes")?,
-        Ok(false) => writeln!(answers, "no")?,
+        Ok(left) => writeln!(answers, "left {}", left.len())?,
         Err(denial) => writeln!(answers, "{}", word_of(&denial))?,
     }
     Ok(())
@@ -161,14 +160,14 @@ impl<S: SharedCalls> SharedPlayer<S> {
         }
     }
 
-    /// Flushes the files with these stems, each of which has one.
-    fn flush_files(&mut self, word: &str, answers: &mut Vec<u8>) -> Result<()> {
+    /// Makes a first pass for the files with these stems.
+    fn flush_pass(&mut self, word: &str, answers: &mut Vec<u8>) -> Result<()> {
         let mut stems = Vec::new(self.alloc);
         for stem in word.split(' ') {
             stems.push(String::from_str(self.alloc, stem)?)?;
         }
-        let answer = self.calls.flush_files(&stems, false);
-        tell_whether(answers, answer)
+        let all = texts_of(self.alloc, &stems)?;
+        tell_left(answers, self.calls.flush_pass(&stems, &all))
     }
 
     /// Makes the call of this name on a folder or on a name.
@@ -181,7 +180,7 @@ impl<S: SharedCalls> SharedPlayer<S> {
             }
             "list" => self.list(folder_of(word)?, false, answers),
             "list-all" => self.list(folder_of(word)?, true, answers),
-            "flush-files" => self.flush_files(word, answers),
+            "flush-pass" => self.flush_pass(word, answers),
             "create" => keep(&mut self.made, answers, self.calls.create(word)),
             "stat-name" | "open" | "lstat" => self.call_on_name(call, word, answers),
             "fsync-folder" => tell_done(answers, self.calls.fsync_folder(folder_of(word)?)),

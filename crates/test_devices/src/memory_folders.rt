@@ -513,6 +513,13 @@ impl MemoryFolders {
         }
     }
 
+    // Whether a file that is there has this stem.
+    pub(crate) fn has_stem(&self, wanted: &str) -> bool {
+        self.files
+            .iter()
+            .any(|file| !file.is_gone && stem(file.name.as_str()) == wanted)
+    }
+
     // Whether what can't be opened has a name in a folder: in both, then.
     pub(crate) fn is_obstructed(&self, name: &str) -> bool
         ensures { (folder : Folder) → result ≡ has_id (closed_in folder self.now) name.now }

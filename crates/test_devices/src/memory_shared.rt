@@ -15,7 +15,7 @@ use folder_store::{
     ChangeTime, FileKind, FileStat, ListedNames, OpenHandle, SharedCalls, Sought, readers_move,
 };
 use mail_store::Folder;
-use std::alloc::Global;
+use std::alloc::{AllocError, Global};
 use std::io::{self, ErrorKind};
 use std::time::Duration;
 use system_calls::Denial;
@@ -143,6 +143,17 @@ impl MemoryShared {
         Err(refusal(self.alloc, name, ErrorKind::NotFound))
     }
 
+    /// Those of these stems that no file has.
+    fn missing<'a>(&self, stems: &[&'a str]) -> Result<Vec<&'a str>, AllocError> {
+        let mut missing = Vec::new(self.alloc);
+        for stem in stems {
+            if !self.folders.has_stem(*stem) {
+                missing.push(*stem)?;
+            }
+        }
+        Ok(missing)
+    }
+
     /// A folder's time of change.
     fn change_of(&self, folder: Folder) -> Result<ChangeTime, Denial>
         ensures ok { IfOk result (λ change.
@@ -174,6 +185,10 @@ impl SharedCalls for MemoryShared {
     ghost was_file = { λ _ _ _. Unit {0} };
 
     ghost was_refused = { λ m. MayRefuse m.folders };
+
+    ghost was_left = { λ _ _ _ _. Unit {0} };
+
+    ghost was_denied = { λ _ _. Unit {0} };
 
     ghost sound = { λ _. Unit {0} };
 
@@ -234,10 +249,17 @@ impl SharedCalls for MemoryShared {
         Ok(stat_of(FileKind::File, size, 0))
     }
 
-    fn flush_files(&mut self, stems: &[String], _may_miss: bool) -> Result<bool, Denial> {
+    fn flush_pass<'a>(
+        &mut self,
+        stems: &[String],
+        left: &[&'a str],
+    ) -> Result<Vec<&'a str>, Denial> {
         self.begin("")?;
-        self.folders.flush_now(stems)?;
-        Ok(true)
+        let still = self.missing(left)?;
+        if still.is_empty() {
+            self.folders.flush_now(stems)?;
+        }
+        Ok(still)
     }
 
     fn create(&mut self, name: &str) -> Result<MemoryMade, Denial> {

@@ -1,5 +1,5 @@
 use Rattle.std.proofs.Common.{◌≡◌, map, string_bytes, take}
-use Rattle.folder_store.proofs.host_shared.texts_of.Given as goal
+use Rattle.folder_store.proofs.flush_pass.texts_of.Given as goal
 
 -- the texts so far
 abbrev pub invariant-loop-text : goal.invariant-loop-text
