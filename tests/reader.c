@@ -11,7 +11,8 @@
        READER_MAILDIR=Maildir READER_OPEN=2 READER_OPENS=5 READER_NOTE=note LD_PRELOAD=./reader.so PROGRAM ..
 
    Just before the second open, here, of a file of `new` or `cur`, and before the four after it, that file alone is moved
-   to `cur` with other flags; with READER_AWAY it is removed. */
+   to `cur` with other flags; with READER_AWAY it is removed. With READER_SWAP it changes places with the message's file in
+   `new`, if that is another one. */
 
 #include "preloaded.h"
 #include <dirent.h>
@@ -81,6 +82,21 @@ static void read_mail(void)
     move_all(maildir, "new", "cur");
 }
 
+/* A file of `cur`, and the one of `new` whose name is the same without flags. */
+static void swap(const char *maildir, const char *path)
+{
+    const char *name = strrchr(path, '/') + 1;
+    const char *flags = strstr(name, ":2,");
+    char other[2 * PATH_MAX], between[2 * PATH_MAX];
+
+    if (!flags)
+        return;
+    snprintf(other, sizeof other, "%s/new/%.*s", maildir, (int)(flags - name), name);
+    snprintf(between, sizeof between, "%s/cur/%.*s:2,T", maildir, (int)(flags - name), name);
+    if (rename(other, between) || rename(path, other) || rename(between, path))
+        abort();
+}
+
 static void before_open(const char *path)
 {
     static long opens = 0;
@@ -97,6 +113,10 @@ static void before_open(const char *path)
     if (opens < first || opens >= first + number_in("READER_OPENS", 1))
         return;
     make_file(getenv("READER_NOTE"), 0);
+    if (getenv("READER_SWAP")) {
+        swap(maildir, path);
+        return;
+    }
     flag(rest + 5, other);
     snprintf(to, sizeof to, "%s/cur/%s", maildir, other);
     if (getenv("READER_AWAY") ? unlink(path) : rename(path, to))

@@ -121,6 +121,10 @@ class FoundFiles(unittest.TestCase):
         self.check_each(3, [("new", "")], moved_at)
         self.check_each(6, BOTH, moved_at, copies=2)
 
+    def test_two_that_change_places_before_one_is_opened(self):
+        """Both are flushed, also if the other one was flushed already under the name that is opened next."""
+        self.check_each(6, BOTH, lambda opening: {"READER_OPEN": str(opening), "READER_SWAP": "1"}, copies=2)
+
     def test_those_that_a_reader_moves_again_and_again(self):
         """Each of the three, twenty times."""
         inodes = self.put(("new", ""))

@@ -1,7 +1,8 @@
 //! Which files are still to be flushed after a pass through the folders of a Maildir.
 
 ghost use Rattle.std.specs.{
-  Prelude.{◌≡◌, ℕ, List, ◌||◌, bytes_eq, map, not, string_bytes, IfOk, OnOk},
+  Prelude.{◌≡◌, ℕ, List, ◌||◌, bytes_eq, map, nat_lt, not, string_bytes, true, IfOk, OnOk},
+  BTreeSet.{Updates, contains},
   List.filter,
 };
 ghost use Rattle.mail_store.specs.{FileName.stem, Held.has_text};
@@ -11,6 +12,7 @@ ghost use Rattle.folder_store.specs.{
   Wanted.has_octets,
 };
 
+use crate::calls::FileStat;
 use mail_store::stem;
 use std::alloc::{AllocError, Global};
 use std::collections::BTreeSet;
@@ -21,6 +23,22 @@ pub struct Found {
     pub name: String,
     /// Whether it was flushed; else it had gone from there.
     pub is_flushed: bool,
+}
+
+/// Notes that a file was opened under a name. False if it was before, under another one, and has one name alone: it was
+/// moved meanwhile, and what had this name may not have been opened.
+pub fn is_opened_anew(
+    opened: &mut BTreeSet<(u64, u64)>,
+    file: &FileStat,
+) -> Result<bool, AllocError>
+    ensures anew { IfOk result (λ is_anew.
+        is_anew ≡ (not (contains ⟦<(u64, u64) as Ord>⟧.cmp opened.old (file.now.device, file.now.inode))
+        || nat_lt 1 file.now.links)) }
+    ensures notes { OnOk result (Updates ⟦<(u64, u64) as Ord>⟧.cmp opened.old opened.new
+        (file.now.device, file.now.inode) true) }
+{
+    let is_first = opened.insert((file.device, file.inode))?;
+    Ok(is_first || file.links > 1)
 }
 
 /// These texts.

@@ -15,6 +15,7 @@ ghost use Rattle.folder_store.specs.{
 use crate::calls::{Access, FileCalls, FileKind, FileStat};
 use crate::exact_listing::{FolderNames, list_names};
 use crate::file_folder::{FileFolder, FolderState};
+use crate::flush_pass::is_opened_anew;
 use crate::handles::Handles;
 use crate::host_calls::HostCalls;
 use crate::host_paths::HostPaths;
@@ -30,6 +31,7 @@ use crate::sweep::{Scratch, sweep};
 use crate::wanted::Wanted;
 use mail_store::{Edges, StoreFault};
 use std::alloc::Global;
+use std::collections::BTreeSet;
 use std::fs::Metadata;
 use std::io::ErrorKind;
 use std::rt::Files;
@@ -212,13 +214,20 @@ impl<'a, R: Files + AllocGlobal> CallsFolder<'a, HostCalls<'a, R>> {
     }
 
     // Flushes the bytes of such a file, and says whether the name is still there; None if it can't be opened. A file
-    // that is no link may go away once it is open.
-    pub(crate) fn sync_if_there(&mut self, name: &str) -> Result<Option<bool>, Denial> {
+    // that is no link may go away once it is open, and counts only if it wasn't opened before, as another name's.
+    pub(crate) fn sync_if_there(
+        &mut self,
+        name: &str,
+        opened: &mut BTreeSet<(u64, u64)>,
+    ) -> Result<Option<bool>, Denial> {
         let is_link = self.is_link(name);
         match self.open_if_there(name) {
             Ok(Some(file)) => {
                 self.calls.fsync(&file)?;
-                Ok(Some(!is_link || self.are_targets_synced(name)?))
+                if is_link {
+                    return Ok(Some(self.are_targets_synced(name)?));
+                }
+                Ok(Some(is_opened_anew(opened, &self.calls.fstat(&file)?)?))
             }
             Ok(None) => Ok(Some(false)),
             Err(fault) if self.is_odd(name, &fault) => Ok(None),

@@ -25,6 +25,15 @@ pub struct CallsShared<'a, R, C: FileCalls> {
     pub cur_folder: CallsFolder<'a, C>,
 }
 
+/// A pass through the folders: the stems whose files it flushes, the files that it opened, by device and inode number,
+/// and what it found.
+#[derive(Drop)]
+struct Pass<'s> {
+    stems: BTreeSet<&'s str>,
+    opened: BTreeSet<(u64, u64)>,
+    found: Vec<Found>,
+}
+
 /// The machine's file system, for the folders of a Maildir; files are made in `tmp`. Nothing is known of what it does.
 pub type HostShared<'a, R> = CallsShared<'a, R, HostCalls<'a, R>>;
 
@@ -32,26 +41,19 @@ impl<'a, R: Files + Clock + AllocGlobal + Clone + Drop> CallsShared<'a, R, HostC
     // Flushes the files with one of these stems, all of which are wanted, that both folders have at one moment. If
     // `new` changed while they were listed, a reader may have moved one past the listing: then none counts as found.
     fn sync_pass(&mut self, wanted: Wanted<'_>, stems: &[&str]) -> Result<Vec<Found>, Denial> {
+        let alloc = self.system.alloc();
+        let mut pass = Pass {
+            stems: set_of(alloc, stems)?,
+            opened: BTreeSet::new(alloc),
+            found: Vec::new(alloc),
+        };
         let in_new = self.new_folder.read_names(wanted)?;
         let in_cur = self.cur_folder.read_names(wanted)?;
-        if ChangeTime::of(&in_new.folder) != self.new_folder.stat()?.change {
-            return Ok(Vec::new(self.system.alloc()));
+        if ChangeTime::of(&in_new.folder) == self.new_folder.stat()?.change {
+            pass.sync_named(&mut self.new_folder, in_new.names)?;
+            pass.sync_named(&mut self.cur_folder, in_cur.names)?;
         }
-        self.sync_listed(in_new.names, in_cur.names, stems)
-    }
-
-    // Flushes those that have one of these stems among the files with these names in `new` and in `cur`.
-    fn sync_listed(
-        &mut self,
-        in_new: Vec<String>,
-        in_cur: Vec<String>,
-        stems: &[&str],
-    ) -> Result<Vec<Found>, Denial> {
-        let mut found = Vec::new(self.system.alloc());
-        let stems = set_of(self.system.alloc(), stems)?;
-        sync_named(&mut self.new_folder, in_new, &stems, &mut found)?;
-        sync_named(&mut self.cur_folder, in_cur, &stems, &mut found)?;
-        Ok(found)
+        Ok(pass.found)
     }
 
     // The calls of the whole file system.
@@ -84,21 +86,22 @@ impl<'a, R: Files + Clock + AllocGlobal + Clone + Drop> CallsShared<'a, R, HostC
     }
 }
 
-/// Flushes those of a folder's files that have one of these stems. What can't be opened is none.
-fn sync_named<R: Files + AllocGlobal>(
-    host: &mut HostFolder<'_, R>,
-    names: Vec<String>,
-    stems: &BTreeSet<&str>,
-    found: &mut Vec<Found>,
-) -> Result<(), Denial> {
-    for name in names {
-        if stems.contains(stem(name.as_str())) {
-            if let Some(is_flushed) = host.sync_if_there(name.as_str())? {
-                found.push(Found { name, is_flushed })?;
+impl Pass<'_> {
+    // Flushes those of a folder's files that have one of the stems. What can't be opened is none.
+    fn sync_named<R: Files + AllocGlobal>(
+        &mut self,
+        host: &mut HostFolder<'_, R>,
+        names: Vec<String>,
+    ) -> Result<(), Denial> {
+        for name in names {
+            if self.stems.contains(stem(name.as_str())) {
+                if let Some(is_flushed) = host.sync_if_there(name.as_str(), &mut self.opened)? {
+                    self.found.push(Found { name, is_flushed })?;
+                }
             }
         }
+        Ok(())
     }
-    Ok(())
 }
 
 impl<'a, R: Files + Clock + AllocGlobal + Clone + Drop> SharedCalls
