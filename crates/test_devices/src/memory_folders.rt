@@ -21,7 +21,7 @@ ghost use Rattle.test_devices.specs.{
 use crate::new_file::MemoryNewFile;
 use crate::stored_mail::{FoundMail, MailLeft, StoredMail, is_one_of};
 use folder_store::{FolderMaildir, FoundNames, MailFolders, Sought, readers_move};
-use mail_store::{Folder, StoreFault, sought_names};
+use mail_store::{Folder, StoreFault, sought_names, stem};
 use std::alloc::{AllocError, Global};
 use std::marker::Model;
 
