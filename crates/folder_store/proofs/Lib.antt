@@ -10,5 +10,6 @@ pub mod Searching
 pub mod Reading
 pub mod Changing
 pub mod Folder
+mod Listing
 mod Watching
 mod Keeping

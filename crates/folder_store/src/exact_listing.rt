@@ -1,16 +1,20 @@
 //! The names of a folder, listed exactly although others rename files in it meanwhile.
 
-ghost use Rattle.std.specs.{Prelude.{◌≡◌, ◌≢◌, pos}, Duration.as_nanos};
-ghost use Rattle.folder_store.specs.{ExactListing.{IsExactListing, age_at, left_of}, HostAnswers.seconds_at};
+ghost use Rattle.std.specs.{Option.option_map, Prelude.{◌≡◌, ◌↔◌, ◌-◌, ◌≤◌, IsTrue}, Duration.as_nanos};
+ghost use Rattle.folder_store.specs.{
+  ExactListing.{ComesTo, IsLook, IsPass, IsReading, IsRest, ListsExactly, ListsOnce, MakesCalls, age_at, left_at},
+  ExactListing.{left_of, most_nanos, name_texts, step_nanos},
+  HostAnswers.seconds_at,
+};
 
+use crate::listing_calls::ListingCalls;
+use crate::shared_calls::ListedNames;
 use crate::wanted::{Search, Wanted};
+use std::alloc::Global;
 use std::fs::Metadata;
-use std::io::Read;
 use std::os::unix::fs::MetadataExt;
-use std::rt::Files;
-use std::thread;
-use std::time::{Clock, Duration};
-use system_calls::{Denial, System};
+use std::time::Duration;
+use system_calls::Denial;
 
 /// How many milliseconds a folder must be unchanged before it is listed, so that each later change
 /// gives it another time: longer than the steps of the clock by which Linux stamps changes (1 to 10).
@@ -30,6 +34,9 @@ const LOOK_EACH: u64 = 8;
 
 /// How many times a folder is listed.
 const MOST_LISTINGS: u32 = 100;
+
+/// Why a folder's names aren't told.
+const CHANGES_ALWAYS: &str = "changes all the time";
 
 /// A folder's time of change, in seconds and nanoseconds since 1970. It moves when a file comes, goes
 /// or gets another name, and nobody can set it.
@@ -60,8 +67,7 @@ impl ChangeTime {
 
     /// How long a folder must be at rest so that a later change gives it another time than this.
     fn step(self) -> Duration
-        ensures whole { self.nanoseconds ≡ pos 0 → as_nanos result ≡ 1_020_000_000 }
-        ensures finer { self.nanoseconds ≢ pos 0 → as_nanos result ≡ 20_000_000 }
+        ensures { as_nanos result ≡ step_nanos self.nanoseconds }
     {
         Duration::from_millis(if self.nanoseconds == 0 {
             STEP_OF_SECONDS_MILLIS
@@ -82,112 +88,128 @@ impl ChangeTime {
     }
 }
 
-/// The names of a folder, and the folder's metadata just before they were listed.
-#[derive(Drop)]
-pub struct FolderNames {
-    /// Each name that is wanted once, in any order.
-    pub names: Vec<String>,
-    /// The folder, whose time of change was the same before and after the listing.
-    pub folder: Metadata,
-}
-
-/// A folder's metadata, and when it was read, by the clock that never goes back.
-#[derive(Drop)]
+/// A folder's time of change, and when it was read, by the clock that never goes back.
+#[derive(Clone, Copy)]
 struct Sighting {
-    folder: Metadata,
+    change: ChangeTime,
     at: Duration,
 }
 
 impl Sighting {
-    /// A folder's metadata now.
-    fn now<R: Files + Clock + AllocGlobal>(
-        system: &System<'_, R>,
-        path: &str,
-    ) -> Result<Sighting, Denial> {
-        let folder = system.stat(path)?;
-        let at = system.asked("clock_gettime", path, system.rt.monotonic())?;
-        Ok(Sighting { folder, at })
-    }
-
-    fn change(&self) -> ChangeTime {
-        ChangeTime::of(&self.folder)
-    }
-
     /// How long to wait before each later change gives the folder another time than the one seen.
-    fn wait<R: Files + Clock + AllocGlobal>(
-        &self,
-        system: &System<'_, R>,
-        path: &str,
-    ) -> Result<Duration, Denial> {
-        // A clock of dates before 1970 is an error: then nothing is known of the age.
-        let since_1970 = system.rt.since_1970().unwrap_or(Duration::ZERO);
-        let age = self.change().age(since_1970);
-        let now = system.asked("clock_gettime", path, system.rt.monotonic())?;
-        let watched = now.saturating_sub(self.at);
-        Ok(left_of(self.change().step(), age, watched))
+    fn left(self, date: Option<Duration>, now: Duration) -> Duration
+        ensures { as_nanos result ≡ left_at self date now }
+    {
+        // Without a clock of dates nothing is known of the age.
+        let age = self.change.age(date.unwrap_or(Duration::ZERO));
+        left_of(self.change.step(), age, now.saturating_sub(self.at))
     }
 }
 
 /// What is left of a step where the time of change is this old, by the clock of dates, and was seen this
 /// long ago, whatever that clock says.
 fn left_of(step: Duration, age: Duration, watched: Duration) -> Duration
-    ensures { as_nanos result ≡ left_of step age watched }
+    ensures { as_nanos result ≡ left_of (as_nanos step) (as_nanos age) (as_nanos watched) }
 {
     step.saturating_sub(age).min(step.saturating_sub(watched))
 }
 
-/// What a listing of a folder is.
-#[derive(Clone, Copy)]
-enum Listing {
-    /// The names at one moment.
-    Exact,
-    /// Perhaps not: the folder changed meanwhile.
-    Changed,
-    /// The same, and the folder has changed for too long.
-    TooBusy,
-}
-
-/// What a listing is, by the folder's time of change before and after it, and how long ago the first listing
-/// began.
-fn listing_of(before: ChangeTime, after: ChangeTime, passed: Duration) -> Listing
-    ensures { IsExactListing before after passed result }
+/// Whether a folder has changed for so long, since its first look, that it isn't listed again.
+fn is_late(start: Duration, now: Duration) -> bool
+    ensures { IsTrue result ↔ most_nanos ≤ as_nanos now - as_nanos start }
 {
-    if before == after {
-        Listing::Exact
-    } else if passed < Duration::from_secs(MOST_SECONDS) {
-        Listing::Changed
-    } else {
-        Listing::TooBusy
-    }
+    now.saturating_sub(start) >= Duration::from_secs(MOST_SECONDS)
 }
 
-/// The names wanted that one pass through a folder finds. If names change meanwhile, the system may leave
-/// out a file that is there all the time; and on tmpfs it finds a renamed file again, so a pass
-/// ends early once the folder isn't as it was seen.
-fn pass_through<R: Files + Clock + AllocGlobal>(
-    system: &System<'_, R>,
-    path: &str,
-    seen: &Sighting,
+/// Looks at a folder.
+fn look<L: ListingCalls>(folder: &mut L) -> Result<Sighting, Denial>
+    ensures { MakesCalls L.did folder.old folder.new (ComesTo IsLook result) }
+{
+    let change = folder.stat()?;
+    let at = folder.clock()?;
+    Ok(Sighting { change, at })
+}
+
+/// Leaves a folder alone until each later change gives it another time than the one seen.
+fn rest<L: ListingCalls>(folder: &mut L, seen: Sighting) -> Result<(), Denial>
+    ensures { MakesCalls L.did folder.old folder.new (ComesTo (λ _. IsRest seen) result) }
+{
+    let date = folder.date();
+    let now = folder.clock()?;
+    let left = seen.left(date, now);
+    if left.is_zero() {
+        return Ok(());
+    }
+    folder.sleep(left);
+    Ok(())
+}
+
+/// The names wanted of an open folder, from the first on. If names change meanwhile, the system may leave
+/// out a file that is there all the time; and on tmpfs it finds a renamed file again, so this
+/// is given up once the folder isn't as it was seen.
+fn read_to_end<L: ListingCalls>(
+    folder: &mut L,
+    opened: &mut L::Opened,
+    octets: &mut [u8],
+    alloc: Global,
+    seen: ChangeTime,
     search: &mut Search<'_>,
-) -> Result<Vec<String>, Denial> {
-    let mut found = Vec::new(system.alloc());
-    let mut octets = vec![in system.alloc(); 0u8; READ_AT_ONCE]?;
-    // With the slash a link to a folder is followed.
-    let within = format!(in system.alloc(); "{path}/")?;
-    let opened = system.rt.open_dir(within.as_str());
-    let mut folder = system.asked("open", path, opened)?;
+) -> Result<Option<Vec<String>>, Denial>
+    ensures wanted { search.new.wanted ≡ search.old.wanted }
+    ensures makes { MakesCalls L.did folder.old folder.new
+        (ComesTo (λ found. IsReading search.old.wanted seen (option_map name_texts found)) result) }
+{
+    let mut found = Vec::new(alloc);
     for reads in 1..u64::MAX {
-        let read = folder.read(&mut octets);
-        let count = system.asked("read", path, read)?;
+        let count = folder.read(opened, octets)?;
         if count == 0 {
-            break;
+            return Ok(Some(found));
         }
-        search.add(system.alloc(), &octets[..count], &mut found)?;
-        if reads % LOOK_EACH == 0 && Sighting::now(system, path)?.change() != seen.change() {
-            break;
+        search.add(alloc, &octets[..count], &mut found)?;
+        if reads % LOOK_EACH != 0 {
+            continue;
+        }
+        if folder.stat()? != seen {
+            return Ok(None);
         }
     }
-    Ok(found)
+    Ok(None)
+}
+
+/// The names wanted that one pass through a folder finds. None if it isn't as it was seen.
+fn pass_through<L: ListingCalls>(
+    folder: &mut L,
+    alloc: Global,
+    seen: ChangeTime,
+    search: &mut Search<'_>,
+) -> Result<Option<Vec<String>>, Denial>
+    ensures wanted { search.new.wanted ≡ search.old.wanted }
+    ensures makes { MakesCalls L.did folder.old folder.new
+        (ComesTo (λ found. IsPass search.old.wanted seen (option_map name_texts found)) result) }
+{
+    let mut octets = vec![in alloc; 0u8; READ_AT_ONCE]?;
+    let mut opened = folder.open()?;
+    read_to_end(folder, &mut opened, &mut octets, alloc, seen, search)
+}
+
+/// Lists a folder once that was seen so, and looks at it again. Names are told only if none changed meanwhile.
+fn list_once<L: ListingCalls>(
+    folder: &mut L,
+    alloc: Global,
+    seen: Sighting,
+    search: &mut Search<'_>,
+) -> Result<(Option<Vec<String>>, Sighting), Denial>
+    ensures wanted { search.new.wanted ≡ search.old.wanted }
+    ensures makes { MakesCalls L.did folder.old folder.new
+        (ComesTo (λ told. ListsOnce search.old.wanted seen (option_map name_texts told.0) told.1) result) }
+{
+    rest(folder, seen)?;
+    let found = pass_through(folder, alloc, seen.change, search)?;
+    let again = look(folder)?;
+    if again.change != seen.change {
+        return Ok((None, again));
+    }
+    Ok((found, again))
 }
 
 /// The names of a folder that are wanted, at one moment between the call and its end: none is left out and none
@@ -201,33 +223,27 @@ fn pass_through<R: Files + Clock + AllocGlobal>(
 /// old time.
 ///
 /// The error is the system's, or a refusal if the folder found no rest within 2 seconds.
-pub fn list_names<R: Files + Clock + AllocGlobal>(
-    system: &System<'_, R>,
+pub fn list_names<L: ListingCalls>(
+    folder: &mut L,
+    alloc: Global,
     path: &str,
     wanted: Wanted<'_>,
-) -> Result<FolderNames, Denial> {
+) -> Result<ListedNames, Denial>
+    ensures { MakesCalls L.did folder.old folder.new (ListsExactly wanted.entry path.now result) }
+{
     let mut search = Search::new(wanted);
-    let start = system.asked("clock_gettime", path, system.rt.monotonic())?;
-    let mut seen = Sighting::now(system, path)?;
-    for _ in 0..MOST_LISTINGS {
-        let wait = seen.wait(system, path)?;
-        if wait > Duration::ZERO {
-            thread::sleep(system.rt, wait);
+    let start = folder.clock()?;
+    let mut seen = look(folder)?;
+    for times in 0..MOST_LISTINGS {
+        let (told, again) = list_once(folder, alloc, seen, &mut search)?;
+        if let Some(names) = told {
+            let change = again.change;
+            return Ok(ListedNames { names, change });
         }
-        let names = pass_through(system, path, &seen, &mut search)?;
-        let again = Sighting::now(system, path)?;
-        match listing_of(
-            seen.change(),
-            again.change(),
-            again.at.saturating_sub(start),
-        ) {
-            Listing::Exact => {
-                let folder = again.folder;
-                return Ok(FolderNames { names, folder });
-            }
-            Listing::Changed => seen = again,
-            Listing::TooBusy => break,
+        if is_late(start, again.at) {
+            return Err(Denial::because(alloc, path, CHANGES_ALWAYS));
         }
+        seen = again;
     }
-    Err(Denial::because(system.alloc(), path, "changes all the time"))
+    Err(Denial::because(alloc, path, CHANGES_ALWAYS))
 }

@@ -13,7 +13,7 @@ ghost use Rattle.folder_store.specs.{
 };
 
 use crate::calls::{Access, FileCalls, FileKind, FileStat};
-use crate::exact_listing::{FolderNames, list_names};
+use crate::exact_listing::list_names;
 use crate::file_folder::{FileFolder, FolderState};
 use crate::flush_pass::is_opened_anew;
 use crate::handles::Handles;
@@ -24,9 +24,11 @@ use crate::kept_file::{
     sync_names,
 };
 use crate::listed_names::tells_odd;
+use crate::listing_calls::SystemListing;
 use crate::new_file::{CallsNewFile, answer_of};
 use crate::opened_file::{IRREGULAR, LEADS_NOWHERE, open_found, read_all, read_edges, read_piece};
 use crate::process_mark::ProcessMark;
+use crate::shared_calls::ListedNames;
 use crate::sweep::{Scratch, sweep};
 use crate::wanted::Wanted;
 use mail_store::{Edges, StoreFault};
@@ -275,12 +277,13 @@ impl<'a, R: Files + Clock + AllocGlobal + Clone + Drop> CallsFolder<'a, HostCall
     }
 
     // The names of the folder that are wanted, whatever they lead to.
-    pub(crate) fn read_names(&self, wanted: Wanted<'_>) -> Result<FolderNames, Denial> {
-        list_names(
-            self.calls.system,
-            self.paths.folder_path()?.as_str(),
-            wanted,
-        )
+    pub(crate) fn read_names(&self, wanted: Wanted<'_>) -> Result<ListedNames, Denial> {
+        let path = self.paths.folder_path()?;
+        let mut folder = SystemListing {
+            system: self.calls.system,
+            path: path.as_str(),
+        };
+        list_names(&mut folder, self.paths.alloc, path.as_str(), wanted)
     }
 }
 

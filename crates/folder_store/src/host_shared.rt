@@ -4,7 +4,6 @@ ghost use Rattle.std.specs.Prelude.{◌≡◌};
 ghost use Rattle.folder_store.specs.SharedCalls.{unknown_shared};
 
 use crate::calls::{Access, FileCalls, FileStat};
-use crate::exact_listing::ChangeTime;
 use crate::flush_pass::{Found, set_of, unsettled};
 use crate::host::{CallsFolder, HostFolder};
 use crate::host_calls::HostCalls;
@@ -49,7 +48,7 @@ impl<'a, R: Files + Clock + AllocGlobal + Clone + Drop> CallsShared<'a, R, HostC
         };
         let in_new = self.new_folder.read_names(wanted)?;
         let in_cur = self.cur_folder.read_names(wanted)?;
-        if ChangeTime::of(&in_new.folder) == self.new_folder.stat()?.change {
+        if in_new.change == self.new_folder.stat()?.change {
             pass.sync_named(&mut self.new_folder, in_new.names)?;
             pass.sync_named(&mut self.cur_folder, in_cur.names)?;
         }
@@ -130,11 +129,7 @@ impl<'a, R: Files + Clock + AllocGlobal + Clone + Drop> SharedCalls
     }
 
     fn list(&mut self, folder: Folder, sought: Sought<'_>) -> Result<ListedNames, Denial> {
-        let found = self.folder(folder).read_names(Wanted::of(sought))?;
-        Ok(ListedNames {
-            names: found.names,
-            change: ChangeTime::of(&found.folder),
-        })
+        self.folder(folder).read_names(Wanted::of(sought))
     }
 
     fn stat_name(&mut self, folder: Folder, name: &str) -> Result<FileStat, Denial> {

@@ -19,6 +19,7 @@ mod host_shared;
 mod kept_file;
 mod laws;
 mod listed_names;
+mod listing_calls;
 mod mail_folders;
 mod maildir;
 mod new_file;
