@@ -19,12 +19,12 @@ use Rattle.folder_drop.specs.{
   },
   FoldersLook.IsUnchanged,
   Listing.FileListing,
-  MaildirMail.{AreRight, IsKnown, IsListing, ListsChosen, chosen, listed_entry, first_of_ids, is_fit, message_in, message_of, messages_of},
+  MaildirMail.{AreRight, IsAsListed, IsListing, ListsChosen, chosen, listed_entry, first_of_ids, is_fit, message_in, message_of, messages_of},
   MaildirMail.{WasListed, own_file, slot_of, told_of, uid_in},
   MailFiles.{AreMailFiles, DropFile, is_in_place, file_place},
   RealMaildir.{id_of_name, listed_name, listed_place},
 }
-use Rattle.folder_drop.proofs.MailLemmas.{both_true, contains_later, finds_at, first_if_some, same_by_place}
+use Rattle.folder_drop.proofs.MailLemmas.{all_at, at_its_place, both_true, contains_later, finds_at, first_if_some, found_passes}
 
 contains_cases : {A : Type 0} (y : A) (ys : List A) (x : A) → Contains (y ∷ ys) x → (y ≡ x) ⊎ Contains ys x
 contains_cases y ys x (zero, fits, e) = inl e
@@ -98,8 +98,8 @@ slots_are files whole (l ∷ ls) (f ∷ fs) among e =
     ∙ ap (λ (s : List (Option Message)). Some (message_in f) ∷ s) rest
 
 known_of : (files : List DropFile) → AreMailFiles files → (l : ListedFile) (f : DropFile) → Contains files f → is_fit f ≡ true
-    → listed_entry l ≡ told_of f → IsKnown files l
-known_of files whole l f there fit e = inl (
+    → listed_entry l ≡ told_of f → IsAsListed files l
+known_of files whole l f there fit e = (
   f,
   found_listed files whole l f there e,
   (both_true f.is_regular (nat_le f.stamp.length max_size && nat_le (size_of f.content) max_size) fit).0,
@@ -114,21 +114,22 @@ is_listing files listed whole lists = record {
       let is = chosen_is files of.0 of.1 in
       known_of files whole (get_or listed k d) of.0 is.0 is.1 of.2;
   slots = slots_are files whole listed (chosen files) (λ f there. (chosen_is files f there).0) lists;
-  right = λ l g in_list there place stamp.
-      let of = file_of listed (chosen files) lists l in_list in
-      let same = same_by_place files whole.distinct of.0 g (chosen_is files of.0 of.1).0 there
-      (sym (ap (λ (t : (Folder × List ℕ) × Stamp × ℕ). t.0) of.2) ∙ place) in
-      ap (λ (t : (Folder × List ℕ) × Stamp × ℕ). t.2) of.2 ∙ ap (λ (f : DropFile). size_of f.content) same;
 }
 
 -- ---- an earlier listing
 
 pub still_right : (files : List DropFile) (looked : FoldersLook → List DropFile → Type 0) (listing : FileListing)
-    → ((look : FoldersLook) (was : List DropFile) → looked look was → (f : DropFile) → Contains files f → Contains was f)
+    → ((look : FoldersLook) (was : List DropFile) (f then : DropFile) → looked look was → Contains files f → Contains was then
+    → file_place f ≡ file_place then → f.stamp ≡ then.stamp → f.content ≡ then.content)
     → WasListed looked listing → AreRight files listing.files
-still_right files looked listing goes was = ⊎_elim
+still_right files looked listing keeps was = ⊎_elim
     (λ none. λ l f there in_files place stamp. absurd (let long = ap length none.0 in omega (arith, long, there.1)))
-    (λ some. λ l f there in_files place stamp. some.2.right l f there (goes listing.look some.0 some.1 f in_files) place stamp) was
+    (λ some. λ l f there in_files place stamp.
+    let is = all_at (IsAsListed some.0) listing.files l some.2.known there in
+    let then = found_passes (is_in_place (listed_place l)) some.0 is.0 is.1 in
+    let at = at_its_place (listed_place l) is.0 then.1 in
+    let same = keeps listing.look some.0 f is.0 some.1 in_files then.0 (sym place ∙ at) (sym stamp ∙ sym is.3) in
+    sym is.4 ∙ ap size_of (sym same)) was
 
 pub still_listed : (files : List DropFile) (looked : FoldersLook → List DropFile → Type 0) (listing : FileListing) (later : FoldersLook)
     → ((earlier later : FoldersLook) (was now : List DropFile) → looked earlier was → looked later now → IsUnchanged earlier later

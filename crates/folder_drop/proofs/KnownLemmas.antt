@@ -103,7 +103,7 @@ module _ {File : Type 0} (remaining : File → Option (List ℕ)) where
       → WasListed more listed → IsListing new listed.files → IsNoListing none → closed ≡ None
       → Knows remaining old looked listing earlier since reading → Knows remaining new more listed none since closed
   knows_listed old new looked more listing earlier listed none since reading closed same was is is_none is_closed knows = record {
-    known = is.known;
+    known = λ k d fits. inl (is.known k d fits);
     whole = λ _. listing_slots new listed.files is;
     was = was;
     before = inl is_none;

@@ -97,22 +97,19 @@ module _ {D : Type 0} (path : D → List ℕ) (looked : D → FoldersLook → Li
     looks = λ look was is. other.looks look was (one.looks look was is);
   }
 
-module _ {D File : Type 0} (path : D → List ℕ) (looked : D → FoldersLook → List DropFile → Type 0)
-    (opened : D → FileWay → FileNumber → File → Type 0)
+module _ {D : Type 0} (path : D → List ℕ) (looked : D → FoldersLook → List DropFile → Type 0)
     (removed : D → FileWay → FileNumber → Type 0) (sound : D → Type 0) (files : D → List DropFile) where
-  pub takes_none : (P : DropFile → Type 0) (d : D) → TakesSome path looked opened removed sound files P d d
+  pub takes_none : (P : DropFile → Type 0) (d : D) → TakesSome path looked removed sound files P d d
   takes_none P d = record {
     stays = stays_so path looked d;
-    handles = λ way number file is. is;
     names = λ way number is. is;
     lacks = λ s. (s, lacks_none P (files d));
   }
 
-  pub takes_then : (P : DropFile → Type 0) (old mid new : D) → TakesSome path looked opened removed sound files P old mid
-      → TakesSome path looked opened removed sound files P mid new → TakesSome path looked opened removed sound files P old new
+  pub takes_then : (P : DropFile → Type 0) (old mid new : D) → TakesSome path looked removed sound files P old mid
+      → TakesSome path looked removed sound files P mid new → TakesSome path looked removed sound files P old new
   takes_then P old mid new one other = record {
     stays = stays_on path looked old mid new one.stays other.stays;
-    handles = λ way number file is. other.handles way number file (one.handles way number file is);
     names = λ way number is. other.names way number (one.names way number is);
     lacks = λ s. let later = other.lacks s in let before = one.lacks later.0 in
         (before.0, lacks_then P (files old) (files mid) (files new) before.1 later.1);
@@ -120,11 +117,10 @@ module _ {D File : Type 0} (path : D → List ℕ) (looked : D → FoldersLook �
 
   -- one of these names was taken away
   pub takes_named : (names : List Namesake) (i : ℕ) (name : Namesake) (old new : D) → i < length names → name ≡ get_or names i name
-      → TakesSome path looked opened removed sound files (Has name.file) old new
-      → TakesSome path looked opened removed sound files (BearsOne names) old new
+      → TakesSome path looked removed sound files (Has name.file) old new
+      → TakesSome path looked removed sound files (BearsOne names) old new
   takes_named names i name old new within is one = record {
     stays = one.stays;
-    handles = one.handles;
     names = one.names;
     lacks = λ s. let lacks = one.lacks s in (
       lacks.0,
@@ -136,27 +132,15 @@ module _ {D File : Type 0} (path : D → List ℕ) (looked : D → FoldersLook �
   -- one more of these names was taken away, if it's to be
   pub takes_more : (Q : Namesake → Type 0) (names : List Namesake) (i : ℕ) (name : Namesake) (old mid new : D) → i < length names
       → name ≡ get_or names i name
-      → AllWithin (λ n. Q n → removed mid n.file n.number) names 0 i × TakesSome path looked opened removed sound files (BearsOne names) old
+      → AllWithin (λ n. Q n → removed mid n.file n.number) names 0 i × TakesSome path looked removed sound files (BearsOne names) old
       mid
-      → (Q name → removed new name.file name.number) → TakesSome path looked opened removed sound files (Has name.file) mid new
+      → (Q name → removed new name.file name.number) → TakesSome path looked removed sound files (Has name.file) mid new
       → AllWithin (λ n. Q n → removed new n.file n.number) names 0 (i + 1)
-      × TakesSome path looked opened removed sound files (BearsOne names) old new
+      × TakesSome path looked removed sound files (BearsOne names) old new
   takes_more Q names i name old mid new within is before goes one = (
     within_more (λ n. Q n → removed new n.file n.number) names i name within is goes
         (λ k d low high q. one.names (get_or names k d).file (get_or names k d).number (before.0 k d low high q)),
     takes_then (BearsOne names) old mid new before.1 (takes_named names i name mid new within is one),
-  )
-
-  pub may_go_later : (remaining : File → Option (List ℕ)) (P : DropFile → Type 0) (old new : D) (listed name : Namesake)
-      → TakesSome path looked opened removed sound files P old new → MayGo remaining (opened old) listed name
-      → MayGo remaining (opened new) listed name
-  may_go_later remaining P old new listed name takes (inl same) = inl same
-  may_go_later remaining P old new listed name takes (inr were) = inr (
-    were.0,
-    were.1,
-    (were.2.0, takes.handles name.file name.number were.2.0 were.2.1, were.2.2),
-    (were.3.0, takes.handles listed.file listed.number were.3.0 were.3.1, were.3.2),
-    were.4,
   )
 
 -- ---- the files with a message's base, all of which were seen

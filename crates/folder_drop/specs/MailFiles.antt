@@ -64,7 +64,7 @@ pub record Stays {D : Type 0} (path : D → List ℕ) (looked : D → FoldersLoo
   pub place : path new ≡ path old
   pub looks : (look : FoldersLook) (was : List DropFile) → looked old look was → looked new look was
 
--- a look at the folders: nothing goes, and if it succeeds it is known to be of the files that are there
+-- a look at the folders: nothing changes, and if it succeeds it is known to be of the files that are there
 pub record Looks {E : Type 0} (old : List DropFile) (result : Result FoldersLook E) (new : List DropFile)
     (looked : FoldersLook → List DropFile → Type 0) : Type 0 where
   pub same : new ≡ old
@@ -83,12 +83,10 @@ LacksSome P old new = (stays : DropFile → Bool) × (new ≡ filter stays old)
 abbrev pub Has : FileWay → DropFile → Type 0
 Has way file = IsWayTo way (file_place file)
 
--- of what is there nothing goes but some that are P; and what was opened and removed before still is
-pub record TakesSome {D File : Type 0} (path : D → List ℕ) (looked : D → FoldersLook → List DropFile → Type 0)
-    (opened : D → FileWay → FileNumber → File → Type 0) (removed : D → FileWay → FileNumber → Type 0)
-    (sound : D → Type 0) (files : D → List DropFile) (P : DropFile → Type 0) (old new : D) : Type 0 where
+-- of what is there nothing goes but some that are P; and what was removed before still is
+pub record TakesSome {D : Type 0} (path : D → List ℕ) (looked : D → FoldersLook → List DropFile → Type 0)
+    (removed : D → FileWay → FileNumber → Type 0) (sound : D → Type 0) (files : D → List DropFile)
+    (P : DropFile → Type 0) (old new : D) : Type 0 where
   pub stays : Stays path looked old new
-  pub handles : (way : FileWay) (number : FileNumber) (file : File) → opened old way number file
-      → opened new way number file
   pub names : (way : FileWay) (number : FileNumber) → removed old way number → removed new way number
   pub lacks : sound new → sound old × LacksSome P (files old) (files new)

@@ -69,12 +69,14 @@ slots_of files (listed ∷ more) = map (slot_of files) (listed ∷ more)
 
 -- ---- what is known of a listing, whatever was removed since
 
--- the file is where it was listed, as it was then; or it isn't there, and each other one with its base has the same
--- octets, since one of them was removed
+-- the file is where it was listed, as it was then
+abbrev pub IsAsListed : List DropFile → ListedFile → Type 0
+IsAsListed files listed = (file : DropFile) × (find (is_in_place (listed_place listed)) files ≡ Some file)
+    × (file.is_regular ≡ true) × (file.stamp ≡ listed.stamp) × (size_of file.content ≡ listed.size)
+
+-- that; or it isn't there, and each other one with its base has the same octets, since one of them was removed
 abbrev pub IsKnown : List DropFile → ListedFile → Type 0
-IsKnown files listed =
-    ((file : DropFile) × (find (is_in_place (listed_place listed)) files ≡ Some file)
-    × (file.is_regular ≡ true) × (file.stamp ≡ listed.stamp) × (size_of file.content ≡ listed.size))
+IsKnown files listed = IsAsListed files listed
     ⊎ ((find (is_in_place (listed_place listed)) files ≡ None)
     × ((a b : DropFile) → Contains files a → Contains files b → is_namesake listed a ≡ true
     → is_namesake listed b ≡ true → a.content ≡ b.content))
@@ -106,11 +108,10 @@ AreRight files earlier = (listed : ListedFile) (file : DropFile) → Contains ea
 abbrev pub ListsChosen : List DropFile → List ListedFile → Type 0
 ListsChosen files listed = map listed_entry listed ≡ map told_of (chosen files)
 
--- each listed file is known, the messages at their places are all that there are, and the sizes are right
+-- each listed file is there, and the messages at their places are all that there are
 pub record IsListing (files : List DropFile) (listed : List ListedFile) : Type 0 where
-  pub known : All (IsKnown files) listed
+  pub known : All (IsAsListed files) listed
   pub slots : map (slot_of files) listed ≡ map Some (messages_of files)
-  pub right : AreRight files listed
 
 -- no listing, which is never valid; or one of the files that were there at a look
 abbrev pub WasListed : (FoldersLook → List DropFile → Type 0) → FileListing → Type 0

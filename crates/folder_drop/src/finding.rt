@@ -84,9 +84,8 @@ fn find<D: MailFiles>(
     for _ in 0..MOST_TRIES {
         let file = files.way(folder, name.as_str())?;
         let bearer = bearer(files, &file)?;
-        match bearer {
-            Some(found) => return Ok(Some((file, found))),
-            None => {}
+        if let Some(found) = bearer {
+            return Ok(Some((file, found)));
         }
         match place_now(files, seen, (folder, name.as_str()))? {
             Some(now) => (folder, name) = now,

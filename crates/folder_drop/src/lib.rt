@@ -15,5 +15,7 @@ mod removal;
 mod same_octets;
 mod seen_files;
 
-pub use maildir_drop::MaildirDrop;
+pub use mail_files::MailFiles;
+pub use maildir_drop::{FilesDrop, MaildirDrop};
+pub use memory_files::MemoryFiles;
 pub use removal::TwoMessages;

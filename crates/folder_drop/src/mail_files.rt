@@ -3,7 +3,6 @@
 use crate::folders_look::FoldersLook;
 use crate::listed_file::stamp_of;
 use crate::maildir_names::{Folder, PlacedFile, Stamp};
-use crate::removal::Namesake;
 use std::alloc::Global;
 use std::fs::Metadata;
 use std::hash::RandomState;
@@ -13,8 +12,8 @@ use std::os::unix::fs::MetadataExt;
 /// Which file it is: its device, and its number there. All names of a file have the same.
 #[derive(Clone, Copy, PartialEq, Eq)]
 pub struct FileNumber {
-    device: u64,
-    inode: u64,
+    pub device: u64,
+    pub inode: u64,
 }
 
 impl FileNumber {
@@ -72,8 +71,8 @@ pub struct FileWay {
     pub way: String,
 }
 
-/// The files in `new` and `cur` of a Maildir. Others put files there, move them and take them away at any moment: each
-/// answer is only of the moment of its call.
+/// The files in `new` and `cur` of a Maildir. Others put files there, move them and take them away at any moment, so each
+/// answer is only of the moment of its call. The laws say what it tells while nobody does.
 pub trait MailFiles {
     ghost use Rattle.std.specs.Prelude.{◌≡◌, ℕ, List, Contains, Option, None, IfOk, OnOk, string_bytes};
     ghost use Rattle.folder_drop.specs.{
@@ -84,9 +83,8 @@ pub trait MailFiles {
       },
       Finding.LooksUp,
       FoldersLook.IsUnchanged,
-      MailFiles.{AreMailFiles, Bears, Has, TellsEach, Looks, DropFile, HasOctetsOf, Skips, Stays, TakesSome},
+      MailFiles.{AreMailFiles, Bears, DropFile, Has, HasOctetsOf, Looks, Skips, Stays, TakesSome, TellsEach, file_place},
       Places.AreInOrder,
-      Removal.MayGo,
     };
 
     type File: Read + Drop;
@@ -106,10 +104,12 @@ pub trait MailFiles {
     // It removed the name of the regular file of this number.
     ghost removed: { Self → FileWay → FileNumber → Type 0 };
 
-    // What is there now, but for what has a name that begins with a full stop.
+    // What is there now under the names that a listing tells: those in UTF-8 that don't begin with a full stop. After
+    // `close` it is what the next look will find.
     ghost files: { Self → List DropFile };
 
-    // The premise: the system does what its calls promise, and nobody but this server changes the Maildir.
+    // The premise: the system does what its calls promise, with /proc mounted. From a look to the next `close` nobody but
+    // this server changes the Maildir, and at no time does anybody change a file in place.
     ghost sound: { Self → Type 0 };
 
     // It looked at the folders so when these files were there.
@@ -130,7 +130,7 @@ pub trait MailFiles {
     /// Closes both folders.
     fn close(&mut self)
         ensures stays { Stays path looked self.old self.new }
-        ensures same { sound self.new → sound self.old × (files self.new ≡ files self.old) };
+        ensures kept { sound self.new → sound self.old };
 
     /// The files of both folders at one moment, in order.
     fn list(&self) -> io::Result<Vec<PlacedFile>>
@@ -154,12 +154,10 @@ pub trait MailFiles {
         ensures { sound self.now → OnOk result
             (Skips (Self.File.remaining file.old) count (Self.File.remaining file.new)) };
 
-    /// Removes the regular file of a message, or one that goes with it. NotFound if something else has its name by
-    /// now.
-    fn remove(&mut self, file: &Namesake, listed: &Namesake) -> io::Result<()>
-        requires { MayGo Self.File.remaining (opened self.old) listed.now file.now }
-        ensures removed { IfOk result (λ _. removed self.new file.now.file file.now.number) }
-        ensures takes { TakesSome path looked opened removed sound files (Has file.now.file) self.old self.new };
+    /// Removes the name of the regular file of this number. NotFound if something else has it by now.
+    fn remove(&mut self, file: &FileWay, number: FileNumber) -> io::Result<()>
+        ensures removed { IfOk result (λ _. removed self.new file.now number) }
+        ensures takes { TakesSome path looked removed sound files (Has file.now) self.old self.new };
 
     /// The error for a name, with the reason.
     fn refuse(&self, file: &FileWay, words: &str) -> io::Error;
@@ -167,22 +165,30 @@ pub trait MailFiles {
     /// The path of the file or folder for which a call was refused since the last time it was asked for.
     fn take_refused(&self) -> Option<String>;
 
+    // readdir(3): all names of a folder that nobody changes meanwhile.
     ghost lists: { (d : Self) (all : List PlacedFile) → sound d → told d all → TellsEach (files d) all };
 
+    // lstat(2), of a name that a listing may tell.
     ghost finds: { (d : Self) (way : FileWay) (what : Option Found) → sound d → found d way what
         → Bears (files d) way what };
 
+    // open(2), read(2), inode(7): a device and a number are one file, which has the same octets under each name.
     ghost reads: { (d : Self) (way : FileWay) (number : FileNumber) (file : Self.File) → sound d
         → opened d way number file → HasOctetsOf Self.File.remaining (files d) number file };
 
-    ghost goes: { (d : Self) (look : FoldersLook) (was : List DropFile) → sound d → looked d look was
-        → (file : DropFile) → Contains (files d) file → Contains was file };
+    // A file that has the name, length and time of change that one had at a look has the octets of that one.
+    ghost keeps: { (d : Self) (look : FoldersLook) (was : List DropFile) (file before : DropFile) → sound d
+        → looked d look was → Contains (files d) file → Contains was before → file_place file ≡ file_place before
+        → file.stamp ≡ before.stamp → file.content ≡ before.content };
 
+    // inode(7): a folder gets another time of change with each change of its names, once it has rested.
     ghost rests: { (d : Self) (earlier later : FoldersLook) (was now : List DropFile) → sound d → looked d earlier was
         → looked d later now → IsUnchanged earlier later → was ≡ now };
 
+    // unlink(2).
     ghost unlinks: { (d : Self) (way : FileWay) (number : FileNumber) → sound d → removed d way number
         → Bears (files d) way None };
 
+    // Each name is there once.
     ghost whole: { (d : Self) → sound d → AreMailFiles (files d) };
 }

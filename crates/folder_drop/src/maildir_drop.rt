@@ -118,7 +118,7 @@ impl<D: MailFiles> FilesDrop<D> {
     pub fn renewed(self) -> FilesDrop<D>
         ensures rest { result ≡ record self { files = result.files; listed = []; failures = 0 } }
         ensures path { D.path result.files ≡ D.path self.files }
-        ensures same { D.sound result.files → D.sound self.files × (D.files result.files ≡ D.files self.files) }
+        ensures kept { D.sound result.files → D.sound self.files }
     {
         let FilesDrop {
             known,

@@ -14,7 +14,6 @@ use crate::folders_look::FoldersLook;
 use crate::mail_files::{FileNumber, FileWay, Found, MailFiles};
 use crate::maildir_names::{Folder, PlacedFile};
 use crate::open_folder::{OPEN_FILES, OpenFolder};
-use crate::removal::Namesake;
 use folder_store::{HostFolders, ProcessMark, Sought, list_both};
 use std::alloc::{AllocError, Global};
 use std::hash::RandomState;
@@ -108,13 +107,13 @@ impl<'a, R: Files + Clock + AllocGlobal + Clone + Drop> MaildirFolders<'a, R> {
         OpenFolder::open(self.system, folder, path)
     }
 
-    /// A folder that was opened. NotFound before the first look.
+    /// A folder that was opened. NotConnected before the first look.
     fn folder(&self, folder: Folder) -> io::Result<&OpenFolder<'a, R>>
         ensures { IfOk result (λ found.
             IsMaildirFolder self.now folder found.now.folder (string_bytes found.now.path)) }
     {
         match &self.opened {
-            None => Err(io::Error::from(ErrorKind::NotFound)),
+            None => Err(io::Error::from(ErrorKind::NotConnected)),
             Some(opened) => match folder {
                 Folder::New => Ok(&opened.new_folder),
                 Folder::Cur => Ok(&opened.cur_folder),
@@ -239,11 +238,10 @@ impl<'a, R: Files + Clock + RandomSource + AllocGlobal + Clone + Drop> MailFiles
         Ok(())
     }
 
-    fn remove(&mut self, file: &Namesake, _listed: &Namesake) -> io::Result<()>
+    fn remove(&mut self, file: &FileWay, number: FileNumber) -> io::Result<()>
         ensures { self.new ≡ self.old }
     {
-        self.folder(file.file.folder)?
-            .remove(&file.file, file.number)
+        self.folder(file.folder)?.remove(file, number)
     }
 
     fn refuse(&self, file: &FileWay, words: &str) -> io::Error {
@@ -261,7 +259,7 @@ impl<'a, R: Files + Clock + RandomSource + AllocGlobal + Clone + Drop> MailFiles
 
     ghost reads = { λ _ _ _ _ none _. absurd none };
 
-    ghost goes = { λ _ _ _ none _ _. absurd none };
+    ghost keeps = { λ _ _ _ _ _ none _ _ _ _ _. absurd none };
 
     ghost rests = { λ _ _ _ _ _ none _ _ _. absurd none };
 

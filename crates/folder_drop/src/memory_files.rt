@@ -1,6 +1,7 @@
 //! A Maildir in memory that has one file or none: all that `MailFiles` says of the calls can hold of one system.
-ghost use Rattle.std.specs.Prelude.{◌≡◌, ◌↔◌, [], None, Some, IfNone, IfSome, IsTrue};
+ghost use Rattle.std.specs.Prelude.{◌≡◌, ◌↔◌, ◌∷◌, [], None, Some, IfNone, IfSome, IsTrue, length, true};
 ghost use Rattle.folder_drop.specs.{
+  declared.maildir_names.Folder.TheVariants.New,
   MailFiles.{Bears, TellsEach, HasOctetsOf, file_place},
   MemoryFiles.{HasLooked, memory_file_of, memory_files_in, keeps_whole},
   Places.IsWayTo,
@@ -9,10 +10,10 @@ ghost use Rattle.folder_drop.specs.{
 use crate::folders_look::FoldersLook;
 use crate::mail_files::{FileNumber, FileWay, Found, MailFiles};
 use crate::maildir_names::{Folder, PlacedFile, Stamp};
-use crate::removal::Namesake;
 use std::alloc::Global;
 use std::hash::RandomState;
 use std::io::{self, ErrorKind};
+use std::time::Duration;
 
 /// A regular file of a Maildir in memory.
 #[derive(Clone, Copy)]
@@ -42,6 +43,39 @@ pub struct MemoryFiles<'a> {
 }
 
 impl<'a> MemoryFiles<'a> {
+    /// A Maildir that has a new file of this name and these octets.
+    pub fn of(
+        alloc: Global,
+        hasher: RandomState,
+        name: &'a str,
+        content: &'a [u8],
+    ) -> MemoryFiles<'a>
+        ensures { memory_files_in result.file ≡ record {
+          folder = New;
+          name = name.now;
+          is_regular = true;
+          number = record { device = 0; inode = 0 };
+          stamp = record { length = length content.now; seconds = 0; nanoseconds = 0 };
+          content = content.now;
+        } ∷ [] }
+    {
+        let stamp = Stamp::at(content.len() as u64, Duration::ZERO);
+        MemoryFiles {
+            alloc,
+            hasher,
+            file: Some(MemoryFile {
+                folder: Folder::New,
+                name,
+                number: FileNumber {
+                    device: 0,
+                    inode: 0,
+                },
+                stamp,
+                content,
+            }),
+        }
+    }
+
     /// The file of this name, if there is one.
     fn bearer(&self, way: &FileWay) -> Option<MemoryFile<'a>>
         ensures some { IfSome result (λ file. (self.now.file ≡ Some file)
@@ -135,9 +169,9 @@ impl<'a> MailFiles for MemoryFiles<'a> {
         Ok(())
     }
 
-    fn remove(&mut self, namesake: &Namesake, _listed: &Namesake) -> io::Result<()> {
-        match self.bearer(&namesake.file) {
-            Some(file) if file.number == namesake.number => {
+    fn remove(&mut self, way: &FileWay, number: FileNumber) -> io::Result<()> {
+        match self.bearer(way) {
+            Some(file) if file.number == number => {
                 self.file = None;
                 Ok(())
             }
@@ -159,7 +193,7 @@ impl<'a> MailFiles for MemoryFiles<'a> {
 
     ghost reads = { λ _ _ _ _ _ opened. opened };
 
-    ghost goes = { λ _ _ _ _ looked. looked.1 };
+    ghost keeps = { λ _ _ _ file then _ looked. looked.1 file then };
 
     ghost rests = { λ _ earlier later _ _ _ one _ same. absurd (one.0 later same) };
 

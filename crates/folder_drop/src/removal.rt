@@ -182,15 +182,14 @@ fn place_of_other<D: MailFiles>(
 
 /// Removes those of these files that are copies of the listed one.
 fn remove_copies<D: MailFiles>(files: &mut D, all: &[Namesake], listed: &Namesake) -> io::Result<()>
-    requires { All (MayGo D.File.remaining (D.opened files.old) listed.now) all.now }
     ensures removed { OnOk result (All (λ file. file.number ≢ listed.now.number
         → D.removed files.new file.file file.number) all.now) }
-    ensures takes { TakesSome D.path D.looked D.opened D.removed D.sound D.files (BearsOne all.now) files.old
+    ensures takes { TakesSome D.path D.looked D.removed D.sound D.files (BearsOne all.now) files.old
         files.new }
 {
     for file in all {
         if file.number != listed.number {
-            files.remove(file, listed)?;
+            files.remove(&file.file, file.number)?;
         }
     }
     Ok(())
@@ -198,26 +197,23 @@ fn remove_copies<D: MailFiles>(files: &mut D, all: &[Namesake], listed: &Namesak
 
 /// Removes those of these files that are the listed one.
 fn remove_names<D: MailFiles>(files: &mut D, all: &[Namesake], listed: &Namesake) -> io::Result<()>
-    requires { All (MayGo D.File.remaining (D.opened files.old) listed.now) all.now }
     ensures removed { OnOk result (All (λ file. file.number ≡ listed.now.number
         → D.removed files.new file.file file.number) all.now) }
-    ensures takes { TakesSome D.path D.looked D.opened D.removed D.sound D.files (BearsOne all.now) files.old
+    ensures takes { TakesSome D.path D.looked D.removed D.sound D.files (BearsOne all.now) files.old
         files.new }
 {
     for file in all {
         if file.number == listed.number {
-            files.remove(file, listed)?;
+            files.remove(&file.file, file.number)?;
         }
     }
     Ok(())
 }
 
-/// Removes these files, each of which may go with the listed one, and that one last, so that it stays if one of the
-/// others can't be removed.
+/// Removes these files, the listed one last, so that it stays if one of the others can't be removed.
 fn remove_all<D: MailFiles>(files: &mut D, all: &[Namesake], listed: &Namesake) -> io::Result<()>
-    requires { All (MayGo D.File.remaining (D.opened files.old) listed.now) all.now }
     ensures removed { OnOk result (All (λ file. D.removed files.new file.file file.number) all.now) }
-    ensures takes { TakesSome D.path D.looked D.opened D.removed D.sound D.files (BearsOne all.now) files.old
+    ensures takes { TakesSome D.path D.looked D.removed D.sound D.files (BearsOne all.now) files.old
         files.new }
 {
     remove_copies(files, all, listed)?;
@@ -245,7 +241,7 @@ fn remove_with<D: MailFiles>(
 ) -> io::Result<Option<TwoMessages>>
     ensures removes { IfOk result (RemovesWith D.File.remaining (D.opened files.old) (D.removed files.new) listed.now
         all.now) }
-    ensures takes { TakesSome D.path D.looked D.opened D.removed D.sound D.files (BearsOne all.now) files.old
+    ensures takes { TakesSome D.path D.looked D.removed D.sound D.files (BearsOne all.now) files.old
         files.new }
     ensures none { (files.new ≡ files.old) ⊎ All (MayGo D.File.remaining (D.opened files.old) listed.now) all.now }
 {

@@ -5,6 +5,8 @@
 #[cfg(test)]
 mod fetch_session_tests;
 #[cfg(test)]
+mod folder_drop_tests;
+#[cfg(test)]
 mod folder_store_tests;
 #[cfg(test)]
 mod local_fetch_tests;

@@ -75,7 +75,7 @@ impl<D: MailFiles> KnownMail<D> {
     pub(crate) fn renewed(self) -> KnownMail<D>
         ensures stays { Stays D.path D.looked self.files result.files }
         ensures listing { result.listing.files ≡ [] }
-        ensures knows { D.sound result.files → D.sound self.files × (D.files result.files ≡ D.files self.files)
+        ensures knows { D.sound result.files → D.sound self.files
             × (Knows D.File.remaining (D.files self.files) (D.looked self.files) self.listing self.earlier self.since
             self.reading → Knows D.File.remaining (D.files result.files) (D.looked result.files) result.listing
             result.earlier result.since result.reading) }

@@ -7,22 +7,22 @@ use Rattle.folder_drop.proofs.removal.remove_names.Goals.{then-eq+in_ok-remove, 
 pub loop-file-init : goal.loop-file-init
 loop-file-init g c = (
   λ k d low high. absurd (omega (arith, high)),
-  takes_none g.D.MailFiles.path g.D.MailFiles.looked g.D.MailFiles.opened g.D.MailFiles.removed g.D.MailFiles.sound g.D.MailFiles.files
+  takes_none g.D.MailFiles.path g.D.MailFiles.looked g.D.MailFiles.removed g.D.MailFiles.sound g.D.MailFiles.files
       (BearsOne c.args.all.now) c.args.files.now,
 )
 
 pub returns-in_err-remove-clause-takes : goal.returns-in_err-remove-clause-takes
-returns-in_err-remove-clause-takes g c = takes_then g.D.MailFiles.path g.D.MailFiles.looked g.D.MailFiles.opened g.D.MailFiles.removed
+returns-in_err-remove-clause-takes g c = takes_then g.D.MailFiles.path g.D.MailFiles.looked g.D.MailFiles.removed
     g.D.MailFiles.sound
     g.D.MailFiles.files (BearsOne c.args.all.now) c.args.files.now c.loop-file.files c.remove.new.self c.loop-file.invariant.1
-    (takes_named g.D.MailFiles.path g.D.MailFiles.looked g.D.MailFiles.opened g.D.MailFiles.removed g.D.MailFiles.sound g.D.MailFiles.files
+    (takes_named g.D.MailFiles.path g.D.MailFiles.looked g.D.MailFiles.removed g.D.MailFiles.sound g.D.MailFiles.files
     c.args.all.now
     c.loop-file.file-index c.file-item.result c.loop-file.files c.remove.new.self c.loop-file-test.true c.file-item.is
     c.remove.ensures.takes)
 
 pub loop-file-preserved : goal.loop-file-preserved
 loop-file-preserved g c =
-    let more = takes_more g.D.MailFiles.path g.D.MailFiles.looked g.D.MailFiles.opened g.D.MailFiles.removed g.D.MailFiles.sound
+    let more = takes_more g.D.MailFiles.path g.D.MailFiles.looked g.D.MailFiles.removed g.D.MailFiles.sound
     g.D.MailFiles.files
     (λ (file : Namesake). file.number ≡ c.args.listed.now.number) c.args.all.now c.loop-file.file-index c.file-item.result
     c.args.files.now c.loop-file.files in
@@ -32,7 +32,7 @@ loop-file-preserved g c =
       | else-eq w ↦ let differs : c.file-item.result.number ≢ c.args.listed.now.number = first_of
           (search rules, grind (arith, common_steps)) in
           rw w.files-is (more c.loop-file.files c.loop-file-test.true c.file-item.is c.loop-file.invariant
-          (λ is. absurd (differs is)) (takes_none g.D.MailFiles.path g.D.MailFiles.looked g.D.MailFiles.opened g.D.MailFiles.removed
+          (λ is. absurd (differs is)) (takes_none g.D.MailFiles.path g.D.MailFiles.looked g.D.MailFiles.removed
           g.D.MailFiles.sound
           g.D.MailFiles.files _ c.loop-file.files))
     ]

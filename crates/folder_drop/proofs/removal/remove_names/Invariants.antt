@@ -5,5 +5,5 @@ use Rattle.folder_drop.proofs.removal.remove_names.Given as goal
 abbrev pub invariant-loop-file : goal.invariant-loop-file
 invariant-loop-file g l = AllWithin (λ file. file.number ≡ l.listed.number
     → g.D.MailFiles.removed l.files file.file file.number) l.all 0 l.file-index
-    × TakesSome g.D.MailFiles.path g.D.MailFiles.looked g.D.MailFiles.opened g.D.MailFiles.removed g.D.MailFiles.sound g.D.MailFiles.files
+    × TakesSome g.D.MailFiles.path g.D.MailFiles.looked g.D.MailFiles.removed g.D.MailFiles.sound g.D.MailFiles.files
     (BearsOne l.all) l.initial.files l.files

@@ -4,12 +4,12 @@ use Rattle.folder_drop.proofs.{RemovalLemmas.contains_at, TakenLemmas.takes_none
 use Rattle.folder_drop.proofs.removal.remove_with.Goals as goal
 
 pub returns-in_err-place-clause-takes : goal.returns-in_err-place-clause-takes
-returns-in_err-place-clause-takes g c = takes_none g.D.MailFiles.path g.D.MailFiles.looked g.D.MailFiles.opened g.D.MailFiles.removed
+returns-in_err-place-clause-takes g c = takes_none g.D.MailFiles.path g.D.MailFiles.looked g.D.MailFiles.removed
     g.D.MailFiles.sound
     g.D.MailFiles.files (BearsOne c.args.all.now) c.args.files.now
 
 pub returns-in_err-two-clause-takes : goal.returns-in_err-two-clause-takes
-returns-in_err-two-clause-takes g c = takes_none g.D.MailFiles.path g.D.MailFiles.looked g.D.MailFiles.opened g.D.MailFiles.removed
+returns-in_err-two-clause-takes g c = takes_none g.D.MailFiles.path g.D.MailFiles.looked g.D.MailFiles.removed
     g.D.MailFiles.sound
     g.D.MailFiles.files (BearsOne c.args.all.now) c.args.files.now
 
@@ -23,5 +23,5 @@ returns-clause-removes g c =
     )
 
 pub returns-clause-takes : goal.returns-clause-takes
-returns-clause-takes g c = takes_none g.D.MailFiles.path g.D.MailFiles.looked g.D.MailFiles.opened g.D.MailFiles.removed g.D.MailFiles.sound
+returns-clause-takes g c = takes_none g.D.MailFiles.path g.D.MailFiles.looked g.D.MailFiles.removed g.D.MailFiles.sound
     g.D.MailFiles.files (BearsOne c.args.all.now) c.args.files.now

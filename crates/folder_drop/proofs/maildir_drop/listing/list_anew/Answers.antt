@@ -43,7 +43,7 @@ returns-clause-lists g c = λ s.
       λ was.
           let still = still_was _ _ c.args.earlier.now c.look.ensures.stays.looks was in
           let right = still_right (g.D.MailFiles.files files) (g.D.MailFiles.looked files) c.args.earlier.now
-          (λ look then known. g.met.D.MailFiles.goes files look then s known) still in
+          (λ look was f then. g.met.D.MailFiles.keeps files look was f then s) still in
           let lists : IsListing (g.D.MailFiles.files files) c.in-Ok-list_now.listed.files.items = c.in-Ok-list_now.ensures.lists s
           (subst (λ (l : List ListedFile). AreRight (g.D.MailFiles.files files) l) (sym c.files.ensures.files) right) in
           subst (λ (l : FileListing). WasListed (g.D.MailFiles.looked files) l × IsListing (g.D.MailFiles.files files) l.files)

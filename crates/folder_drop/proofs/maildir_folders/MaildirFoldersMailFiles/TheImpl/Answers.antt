@@ -15,14 +15,13 @@ pub look-tells : goal.look-tells
 look-tells g x c = record { stays = stays_itself _ _ c.ensures.same; looks = λ none. absurd none }
 
 pub close-tells : goal.close-tells
-close-tells g x c = record { stays = stays_itself _ _ c.ensures.same; same = λ none. absurd none }
+close-tells g x c = record { stays = stays_itself _ _ c.ensures.same; kept = λ none. absurd none }
 
 pub remove-tells : goal.remove-tells
 remove-tells g x c = record {
   removed = nothing_told c.result;
   takes = record {
     stays = stays_itself _ _ c.ensures;
-    handles = λ way number file is. is;
     names = λ way number is. is;
     lacks = λ none. absurd none;
   };
