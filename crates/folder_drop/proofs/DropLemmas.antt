@@ -19,8 +19,8 @@ use Rattle.folder_drop.specs.{
   },
   FoldersLook.IsUnchanged,
   Listing.FileListing,
-  MaildirMail.{AreRight, IsAsListed, IsListing, ListsChosen, chosen, listed_entry, first_of_ids, is_fit, message_in, message_of, messages_of},
-  MaildirMail.{WasListed, own_file, slot_of, told_of, uid_in},
+  MaildirMail.{AreRight, IsAsListed, IsListing, ListsChosen, chosen, listed_entry, first_of_ids, is_fit, message_in, message_of},
+  MaildirMail.{WasListed, messages_of, own_file, slot_of, told_of, uid_in},
   MailFiles.{AreMailFiles, DropFile, is_in_place, file_place},
   RealMaildir.{id_of_name, listed_name, listed_place},
 }

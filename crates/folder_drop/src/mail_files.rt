@@ -71,8 +71,8 @@ pub struct FileWay {
     pub way: String,
 }
 
-/// The files in `new` and `cur` of a Maildir. Others put files there, move them and take them away at any moment, so each
-/// answer is only of the moment of its call. The laws say what it tells while nobody does.
+/// The files in `new` and `cur` of a Maildir. Others put files there, move them and take them away at any moment, so
+/// each answer is only of the moment of its call. The laws say what it tells while nobody does.
 pub trait MailFiles {
     ghost use Rattle.std.specs.Prelude.{◌≡◌, ℕ, List, Contains, Option, None, IfOk, OnOk, string_bytes};
     ghost use Rattle.folder_drop.specs.{
@@ -83,7 +83,8 @@ pub trait MailFiles {
       },
       Finding.LooksUp,
       FoldersLook.IsUnchanged,
-      MailFiles.{AreMailFiles, Bears, DropFile, Has, HasOctetsOf, Looks, Skips, Stays, TakesSome, TellsEach, file_place},
+      MailFiles.{AreMailFiles, Bears, DropFile, Has, HasOctetsOf, Looks, Skips, Stays, TakesSome, TellsEach},
+      MailFiles.file_place,
       Places.AreInOrder,
     };
 
@@ -108,8 +109,8 @@ pub trait MailFiles {
     // `close` it is what the next look will find.
     ghost files: { Self → List DropFile };
 
-    // The premise: the system does what its calls promise, with /proc mounted. From a look to the next `close` nobody but
-    // this server changes the Maildir, and at no time does anybody change a file in place.
+    // The premise: the system does what its calls promise, with /proc mounted. From a look to the next `close` nobody
+    // but this server changes the Maildir, and at no time does anybody change a file in place.
     ghost sound: { Self → Type 0 };
 
     // It looked at the folders so when these files were there.
