@@ -102,6 +102,9 @@ pub trait Device {
     fn note(&mut self)
         ensures kept { sound self.new → sound self.old × Kept }
     {}
+
+    // At first it counts nothing.
+    ghost begins: { (d : Self) → sound d → counted d 0 };
 }
 
 /// Real.
@@ -216,12 +219,13 @@ def test_contracts(sources):
 
 
 def test_axioms(sources):
-    """What is assumed of a device is what its trait says under the premise, unless the call's body is in the trait; the code
-    for it is uncovered, and so is what has no contract."""
+    """What is assumed of a device is what its trait says under the premise, unless the call's body is in the trait, and what it
+    says by members that the device leaves open; the code for it is uncovered, and so is what has no contract."""
     programs = axioms.Programs(sources, ["low", "high"])
     assert [line.split() for line in axioms.assumptions(programs) if line] == [
-        "Real, a Device (crates/high/src/device.rt): 1 clauses are assumed, 4 are proved".split(),
-        "1 read reads Hidden { }".split()]
+        "Real, a Device (crates/high/src/device.rt): 2 clauses and 1 laws are assumed, 3 are proved".split(),
+        "1 read reads Hidden { }".split(), "2 count counted self.now result".split(),
+        "3 law begins (d : Self) → sound d → counted d 0".split()]
     assert list(axioms.premises(programs)) == ["  Over, a Device (crates/high/src/device.rt): λ d. D.sound d.0"]
     assert list(axioms.excuses(programs)) == ["  Device: flush may be refused"]
     assert list(axioms.uncovered_code(programs)) == ["  high 12: device.rt 12", "  12 lines in all, of 28 of functions"]

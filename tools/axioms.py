@@ -44,12 +44,13 @@ ASSUMED = """\
    → sound self.old ×` before it. A law of the trait under that premise is assumed too. The other ghost members of
    such a device (`tree`, `shared`, `made`, `opened`, `told`, `was_free` and so on) are placeholders, as `sound` is:
    it is assumed that there are some for which all clauses of the trait hold, also those that are proved of the
-   placeholders. docs/STATEMENT.txt has the traits Wire, MaildirDisk and FlatFile with what their names mean, and 9
-   has the others. What can't be opened may come to the folders and go at any moment, so no clause says where such
-   names (`closed_new`, `closed_cur`) come from. Of CallsShared it is assumed that a listing shows exactly those that
-   are there then (`ListsIn`), and that what each name led to then it leads to until it is looked at, unless it is a
-   file's that moved or went: a message whose name is one of what can't be opened isn't fetched. All that is above it
-   is proved to tell just these."""
+   placeholders; one that names no other members is counted as assumed. `remaining`, what reads will give, is one too
+   for the files that MaildirFolders opens: std says that it isn't known of them. docs/STATEMENT.txt has the traits
+   Wire, MaildirDisk and FlatFile with what their names mean, and 9 has the others. What can't be opened may come to
+   the folders and go at any moment, so no clause says where such names (`closed_new`, `closed_cur`) come from. Of
+   CallsShared it is assumed that a listing shows exactly those that are there then (`ListsIn`), and that what each
+   name led to then it leads to until it is looked at, unless it is a file's that moved or went: a message whose name
+   is one of what can't be opened isn't fetched. All that is above it is proved to tell just these."""
 PREMISES = """\
 2. The premises of the other devices. What their traits say is proved, for one over another device as far as that one
    does what its trait says."""
@@ -224,11 +225,14 @@ class Programs:
 
     def pins(self, impl, function):
         """The clauses of an impl's trait that say what the function does there: not by what the impl leaves open."""
-        is_open = set(OPEN.findall(impl.text))
         for text in (text for each in self.traits.get(impl.trait, ()) if each.name == function.name for text in each.pins()):
-            named = self.ghosts[impl.trait] & set(re.findall(r"\w+", text))
-            if not named or named - is_open:
+            if not self.is_open(impl, text):
                 yield text
+
+    def is_open(self, impl, text):
+        """Whether a clause says only what the impl leaves open."""
+        named = self.ghosts[impl.trait] & set(re.findall(r"\w+\b(?!\.)", text))
+        return named != set() and named <= set(OPEN.findall(impl.text))
 
     def is_covered(self, impls, function):
         """Whether its own clauses, or else those of its trait, say what the function does, and aren't only assumed."""
@@ -264,7 +268,8 @@ def assumptions(programs):
         if programs.premise(impl) != UNKNOWN:
             continue
         clauses = list(programs.clauses(impl))
-        mine = [clause[:3] for clause in clauses if NAMES_PREMISE.search(clause[2]) and not clause[3]]
+        mine = [clause[:3] for clause in clauses
+                if not clause[3] and (NAMES_PREMISE.search(clause[2]) or programs.is_open(impl, clause[2]))]
         rest = len(clauses) - len(mine)
         laws = programs.laws[impl.trait]
         with_laws = f" and {len(laws)} laws" if laws else ""
