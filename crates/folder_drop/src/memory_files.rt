@@ -1,15 +1,16 @@
-//! A Maildir in memory that has one file or none: all that `MailFiles` says of the calls can hold of one system.
-ghost use Rattle.std.specs.Prelude.{◌≡◌, ◌↔◌, ◌∷◌, [], None, Some, IfNone, IfSome, IsTrue, length, true};
+//! A Maildir in memory that has one file, or none: all that `MailFiles` says of the calls can hold of one system.
+ghost use Rattle.std.specs.Prelude.{◌≡◌, ◌↔◌, ◌==◌, ◌∷◌, [], None, Some, IfNone, IfSome, IsTrue, length, true};
 ghost use Rattle.folder_drop.specs.{
   declared.maildir_names.Folder.TheVariants.New,
   MailFiles.{Bears, TellsEach, HasOctetsOf, file_place},
-  MemoryFiles.{HasLooked, memory_file_of, memory_files_in, keeps_whole},
+  MemoryFiles.{HasLooked, keeps_content, keeps_whole, memory_file_of, memory_files_in, rests_so},
   Places.IsWayTo,
 };
 
 use crate::folders_look::FoldersLook;
 use crate::mail_files::{FileNumber, FileWay, Found, MailFiles};
 use crate::maildir_names::{Folder, PlacedFile, Stamp};
+use folder_store::ChangeTime;
 use std::alloc::Global;
 use std::hash::RandomState;
 use std::io::{self, ErrorKind};
@@ -34,12 +35,16 @@ impl<'a> MemoryFile<'a> {
     }
 }
 
-/// A Maildir in memory that has this file, or none. No listing of it stays valid.
+/// When each look is, in seconds since 1970: so long after the changes that a listing stays valid.
+const NOW: u64 = 5;
+
+/// A Maildir in memory that has this file until it is removed.
 #[derive(Drop)]
 pub struct MemoryFiles<'a> {
     pub alloc: Global,
     pub hasher: RandomState,
-    pub file: Option<MemoryFile<'a>>,
+    pub file: MemoryFile<'a>,
+    pub is_there: bool,
 }
 
 impl<'a> MemoryFiles<'a> {
@@ -50,7 +55,7 @@ impl<'a> MemoryFiles<'a> {
         name: &'a str,
         content: &'a [u8],
     ) -> MemoryFiles<'a>
-        ensures { memory_files_in result.file ≡ record {
+        ensures { memory_files_in result.file result.is_there ≡ record {
           folder = New;
           name = name.now;
           is_regular = true;
@@ -63,7 +68,7 @@ impl<'a> MemoryFiles<'a> {
         MemoryFiles {
             alloc,
             hasher,
-            file: Some(MemoryFile {
+            file: MemoryFile {
                 folder: Folder::New,
                 name,
                 number: FileNumber {
@@ -72,19 +77,29 @@ impl<'a> MemoryFiles<'a> {
                 },
                 stamp,
                 content,
-            }),
+            },
+            is_there: true,
+        }
+    }
+
+    /// When its folders were last changed.
+    fn changed(&self) -> ChangeTime
+        ensures { (result.seconds == 1) ≡ self.now.is_there }
+    {
+        ChangeTime {
+            seconds: if self.is_there { 1 } else { 2 },
+            nanoseconds: 0,
         }
     }
 
     /// The file of this name, if there is one.
     fn bearer(&self, way: &FileWay) -> Option<MemoryFile<'a>>
-        ensures some { IfSome result (λ file. (self.now.file ≡ Some file)
+        ensures some { IfSome result (λ file. (self.now.is_there ≡ true) × (file ≡ self.now.file)
             × IsWayTo way.now (file_place (memory_file_of file))) }
-        ensures none { IfNone result (Bears (memory_files_in self.now.file) way.now None) }
+        ensures none { IfNone result (Bears (memory_files_in self.now.file self.now.is_there) way.now None) }
     {
-        let file = self.file?;
-        if file.has(way) {
-            return Some(file);
+        if self.is_there && self.file.has(way) {
+            return Some(self.file);
         }
         None
     }
@@ -95,19 +110,20 @@ impl<'a> MailFiles for MemoryFiles<'a> {
 
     ghost path = { λ _. [] };
 
-    ghost told = { λ d all. TellsEach (memory_files_in d.file) all };
+    ghost told = { λ d all. TellsEach (memory_files_in d.file d.is_there) all };
 
-    ghost found = { λ d way what. Bears (memory_files_in d.file) way what };
+    ghost found = { λ d way what. Bears (memory_files_in d.file d.is_there) way what };
 
-    ghost opened = { λ d way number handle. HasOctetsOf (λ s. Some s.now) (memory_files_in d.file) number handle };
+    ghost opened = { λ d way number handle. HasOctetsOf (λ s. Some s.now) (memory_files_in d.file d.is_there) number
+        handle };
 
-    ghost removed = { λ d way number. Bears (memory_files_in d.file) way None };
+    ghost removed = { λ d way number. Bears (memory_files_in d.file d.is_there) way None };
 
-    ghost files = { λ d. memory_files_in d.file };
+    ghost files = { λ d. memory_files_in d.file d.is_there };
 
     ghost sound = { λ _. Unit {0} };
 
-    ghost looked = { λ d look was. HasLooked (memory_files_in d.file) look was };
+    ghost looked = { λ d look was. HasLooked d.file look was };
 
     fn alloc(&self) -> Global {
         self.alloc
@@ -118,18 +134,23 @@ impl<'a> MailFiles for MemoryFiles<'a> {
     }
 
     fn look(&mut self) -> io::Result<FoldersLook> {
-        Ok(FoldersLook::none())
+        let changed = self.changed();
+        Ok(FoldersLook {
+            new: changed,
+            cur: changed,
+            at: NOW,
+        })
     }
 
     fn close(&mut self) {}
 
     fn list(&self) -> io::Result<Vec<PlacedFile>> {
         let mut files = Vec::new(self.alloc);
-        let Some(file) = self.file else {
+        if !self.is_there {
             return Ok(files);
-        };
-        let name = String::from_str(self.alloc, file.name)?;
-        files.push(PlacedFile::of(file.folder, name))?;
+        }
+        let name = String::from_str(self.alloc, self.file.name)?;
+        files.push(PlacedFile::of(self.file.folder, name))?;
         Ok(files)
     }
 
@@ -172,7 +193,7 @@ impl<'a> MailFiles for MemoryFiles<'a> {
     fn remove(&mut self, way: &FileWay, number: FileNumber) -> io::Result<()> {
         match self.bearer(way) {
             Some(file) if file.number == number => {
-                self.file = None;
+                self.is_there = false;
                 Ok(())
             }
             _ => Err(io::Error::from(ErrorKind::NotFound)),
@@ -193,11 +214,13 @@ impl<'a> MailFiles for MemoryFiles<'a> {
 
     ghost reads = { λ _ _ _ _ _ opened. opened };
 
-    ghost keeps = { λ _ _ _ file then _ looked. looked.1 file then };
+    ghost keeps = { λ d look was file before _ looked there had _ _. keeps_content d.file d.is_there look was file
+        before looked there had };
 
-    ghost rests = { λ _ earlier later _ _ _ one _ same. absurd (one.0 later same) };
+    ghost rests = { λ d earlier later was now _ one other same. rests_so d.file earlier later was now one other
+        same };
 
     ghost unlinks = { λ _ _ _ _ removed. removed };
 
-    ghost whole = { λ d _. keeps_whole d.file };
+    ghost whole = { λ d _. keeps_whole d.file d.is_there };
 }

@@ -7,6 +7,6 @@ loop-preserved g c = (
   ⊎_elim (λ same. inr (
     c.in_ok-file.file,
     (c.in_ok-file.ensures.0 ∙ same.0, c.in_ok-file.ensures.1 ∙ c.as_str.ensures.value ∙ same.1),
-    rw c.in-None.is at c.in_ok-bearer.ensures,
+    rw c.in_default.is at c.in_ok-bearer.ensures,
   )) inr c.loop.invariant.1,
 )

@@ -1,12 +1,9 @@
-use Rattle.std.proofs.Common.{refl}
-use Rattle.folder_drop.specs.MemoryFiles.{same_content}
+use Rattle.std.proofs.Common.{ap, refl, sym}
+use Rattle.folder_drop.specs.MemoryFiles.{memory_files_in}
 use Rattle.folder_drop.proofs.memory_files.MemoryFilesMailFiles.look.Goals as goal
 
 pub returns-clause-looks : goal.returns-clause-looks
 returns-clause-looks c = λ s. (
   tt,
-  record {
-    same = refl;
-    now = (c.none.ensures, λ file before there was place stamp. same_content c.args.self.now.file file before there was);
-  },
+  record { same = refl; now = ap (memory_files_in c.args.self.now.file) (sym c.changed.ensures) },
 )
