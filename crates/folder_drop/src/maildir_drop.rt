@@ -77,7 +77,8 @@ where
 {
     /// The maildrop of the Maildir at this path, which must have the folders `new` and `cur`.
     pub fn at(system: &'a System<'a, R>, path: String) -> FilesDrop<MaildirFolders<'a, R>>
-        ensures { result ≡ record { files = string_bytes path; listed = []; failures = 0; removals = 0 } }
+        ensures path { string_bytes result.files.path ≡ string_bytes path }
+        ensures new { (result.listed ≡ []) × (result.failures ≡ 0) × (result.removals ≡ 0) }
     {
         FilesDrop::over(MaildirFolders::at(system, path))
     }

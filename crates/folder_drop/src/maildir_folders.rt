@@ -1,7 +1,8 @@
 //! The two folders of a Maildir whose files are messages.
 ghost use Rattle.std.specs.{
   List.Sorted.IsPermutation,
-  Prelude.{◌≡◌, ◌++◌, ℕ, List, [], IfOk, IfSome, OnOk, map, string_bytes},
+  Option.ForSome,
+  Prelude.{◌≡◌, ◌++◌, [], IfOk, OnOk, map, string_bytes},
 };
 ghost use Rattle.folder_drop.specs.{
   declared.maildir_names.Folder.TheVariants.{Cur, New},
@@ -18,19 +19,22 @@ use folder_store::{HostFolders, ProcessMark, Sought, list_both};
 use std::alloc::{AllocError, Global};
 use std::hash::RandomState;
 use std::io::{self, ErrorKind, Seek, SeekFrom};
-use std::marker::Model;
 use std::random::RandomSource;
 use std::rt::Files;
 use std::time::Clock;
 use system_calls::{Noted, System};
 
-/// The folders `new` and `cur` of the Maildir at a path.
+/// The folders `new` and `cur` of the Maildir at a path. What they hold is no part of this value, so that no clause may
+/// say that a call leaves it as it was: only its path stays.
 #[derive(Drop)]
 pub struct MaildirFolders<'a, R: Files + AllocGlobal + Clone + Drop> {
     system: &'a System<'a, R>,
     path: String,
     /// Both, open since the last look.
     opened: Option<OpenFolders<'a, R>>,
+    ghost are_its_own: { ForSome opened (λ both.
+        IsMaildirFolder (string_bytes path) New both.new_folder.folder (string_bytes both.new_folder.path)
+        × IsMaildirFolder (string_bytes path) Cur both.cur_folder.folder (string_bytes both.cur_folder.path)) },
 }
 
 /// The two folders, open.
@@ -38,16 +42,6 @@ pub struct MaildirFolders<'a, R: Files + AllocGlobal + Clone + Drop> {
 struct OpenFolders<'a, R: Files + AllocGlobal + Clone + Drop> {
     new_folder: OpenFolder<'a, R>,
     cur_folder: OpenFolder<'a, R>,
-}
-
-impl<'a, R: Files + AllocGlobal + Clone + Drop> Model for MaildirFolders<'a, R> {
-    ghost Value = { List ℕ };
-
-    ghost view = { λ f. string_bytes f.path };
-
-    ghost invariant = { λ f. IfSome f.opened (λ both.
-        IsMaildirFolder (string_bytes f.path) New both.new_folder.folder (string_bytes both.new_folder.path)
-        × IsMaildirFolder (string_bytes f.path) Cur both.cur_folder.folder (string_bytes both.cur_folder.path)) };
 }
 
 /// Adds the files of these names in a folder.
@@ -89,7 +83,7 @@ fn files_of(
 impl<'a, R: Files + Clock + AllocGlobal + Clone + Drop> MaildirFolders<'a, R> {
     /// The folders of the Maildir at this path.
     pub fn at(system: &'a System<'a, R>, path: String) -> MaildirFolders<'a, R>
-        ensures { result ≡ string_bytes path }
+        ensures { string_bytes result.path ≡ string_bytes path }
     {
         MaildirFolders {
             system,
@@ -100,7 +94,8 @@ impl<'a, R: Files + Clock + AllocGlobal + Clone + Drop> MaildirFolders<'a, R> {
 
     /// Opens a folder.
     fn open_folder(&self, folder: Folder) -> io::Result<OpenFolder<'a, R>>
-        ensures { IfOk result (λ found. IsMaildirFolder self.now folder found.folder (string_bytes found.path)) }
+        ensures { IfOk result (λ found.
+            IsMaildirFolder (string_bytes self.now.path) folder found.folder (string_bytes found.path)) }
     {
         let (path, name) = (self.path.as_str(), folder.name());
         let path = format!(in self.system.alloc(); "{path}/{name}")?;
@@ -110,7 +105,7 @@ impl<'a, R: Files + Clock + AllocGlobal + Clone + Drop> MaildirFolders<'a, R> {
     /// A folder that was opened. NotConnected before the first look.
     fn folder(&self, folder: Folder) -> io::Result<&OpenFolder<'a, R>>
         ensures { IfOk result (λ found.
-            IsMaildirFolder self.now folder found.now.folder (string_bytes found.now.path)) }
+            IsMaildirFolder (string_bytes self.now.path) folder found.now.folder (string_bytes found.now.path)) }
     {
         match &self.opened {
             None => Err(io::Error::from(ErrorKind::NotConnected)),
@@ -156,7 +151,7 @@ impl<'a, R: Files + Clock + RandomSource + AllocGlobal + Clone + Drop> MailFiles
     for MaildirFolders<'a, R> {
     type File = Noted<'a, R::File>;
 
-    ghost path = { λ d. d };
+    ghost path = { λ d. string_bytes d.path };
 
     ghost told = { λ _ _. Unit {0} };
 
@@ -182,7 +177,7 @@ impl<'a, R: Files + Clock + RandomSource + AllocGlobal + Clone + Drop> MailFiles
 
     // The clock is read first, so that a change which the look misses has a time no older than the look.
     fn look(&mut self) -> io::Result<FoldersLook>
-        ensures same { self.new ≡ self.old }
+        ensures { string_bytes self.new.path ≡ string_bytes self.old.path }
     {
         let at = match self.system.rt.since_1970() {
             Ok(passed) => passed.as_secs(),
@@ -203,7 +198,7 @@ impl<'a, R: Files + Clock + RandomSource + AllocGlobal + Clone + Drop> MailFiles
     }
 
     fn close(&mut self)
-        ensures same { self.new ≡ self.old }
+        ensures { string_bytes self.new.path ≡ string_bytes self.old.path }
     {
         self.opened = None;
     }
@@ -217,7 +212,7 @@ impl<'a, R: Files + Clock + RandomSource + AllocGlobal + Clone + Drop> MailFiles
     fn way(&self, folder: Folder, name: &str) -> io::Result<FileWay>
         ensures place { IfOk result (λ way. (way.folder ≡ folder) × (string_bytes way.name ≡ name.now)) }
         ensures path { IfOk result (λ way. string_bytes way.path
-            ≡ within (within self.now (folder_name folder)) name.now) }
+            ≡ within (within (string_bytes self.now.path) (folder_name folder)) name.now) }
     {
         self.folder(folder)?.file(name)
     }
@@ -239,7 +234,7 @@ impl<'a, R: Files + Clock + RandomSource + AllocGlobal + Clone + Drop> MailFiles
     }
 
     fn remove(&mut self, file: &FileWay, number: FileNumber) -> io::Result<()>
-        ensures { self.new ≡ self.old }
+        ensures { string_bytes self.new.path ≡ string_bytes self.old.path }
     {
         self.folder(file.folder)?.remove(file, number)
     }

@@ -41,8 +41,8 @@ impl Account {
     ) -> Result<MaildirDrop<'a, R>, AllocError>
     where
         R: Files + Clock + RandomSource + AllocGlobal + Clone + Drop,
-        ensures { IfOk result (λ maildir.
-            maildir ≡ record { files = string_bytes self.now.maildir; listed = []; failures = 0; removals = 0 }) }
+        ensures path { IfOk result (λ maildir. string_bytes maildir.files.path ≡ string_bytes self.now.maildir) }
+        ensures new { IfOk result (λ maildir. (maildir.listed ≡ []) × (maildir.failures ≡ 0) × (maildir.removals ≡ 0)) }
     {
         let path = String::from_str(system.alloc(), self.maildir.as_str())?;
         Ok(MaildirDrop::at(system, path))

@@ -7,21 +7,21 @@ nothing_told : {T E : Type 0} (result : Result T E) → IfOk result (λ _. Unit 
 nothing_told (Ok done) = tt
 nothing_told (Err error) = tt
 
-stays_itself : (old new : List ℕ) → new ≡ old
-    → Stays {D = List ℕ} (λ d. d) (λ (d : List ℕ) (look : FoldersLook) (was : List DropFile). Unit {0}) old new
-stays_itself old new same = record { place = same; looks = λ look was is. is }
+same_path : {D : Type 0} (path : D → List ℕ) (old new : D) → path new ≡ path old
+    → Stays path (λ (d : D) (look : FoldersLook) (was : List DropFile). Unit {0}) old new
+same_path path old new same = record { place = same; looks = λ look was is. is }
 
 pub look-tells : goal.look-tells
-look-tells g x c = record { stays = stays_itself _ _ c.ensures.same; looks = λ none. absurd none }
+look-tells g x c = record { stays = same_path _ _ _ c.ensures; looks = λ none. absurd none }
 
 pub close-tells : goal.close-tells
-close-tells g x c = record { stays = stays_itself _ _ c.ensures.same; kept = λ none. absurd none }
+close-tells g x c = record { stays = same_path _ _ _ c.ensures; kept = λ none. absurd none }
 
 pub remove-tells : goal.remove-tells
 remove-tells g x c = record {
   removed = nothing_told c.result;
   takes = record {
-    stays = stays_itself _ _ c.ensures;
+    stays = same_path _ _ _ c.ensures;
     names = λ way number is. is;
     lacks = λ none. absurd none;
   };

@@ -5,5 +5,5 @@ use Rattle.folder_drop.proofs.memory_files.MemoryFilesMailFiles.look.Goals as go
 pub returns-clause-looks : goal.returns-clause-looks
 returns-clause-looks c = λ s. (
   tt,
-  record { same = refl; now = ap (memory_files_in c.args.self.now.file) (sym c.changed.ensures) },
+  record { same = refl; now = ap (memory_files_in c.args.self.now.file) (sym c.changed-changed.ensures) },
 )
