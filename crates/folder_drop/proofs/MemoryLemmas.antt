@@ -1,11 +1,11 @@
 -- A Maildir in memory that has one file, or none.
 use Rattle.std.{
-  proofs.Common.{◌≡◌, ◌⊎◌, ◌<◌, ◌∷◌, [], Bool, arith, false, inr, refl, subst, sym, true},
+  proofs.Common.{◌≡◌, ◌⊎◌, ◌<◌, ◌∷◌, [], ℕ, Bool, List, Some, arith, false, inr, refl, subst, sym, true},
   proofs.lemmas.List.Elements.{All-cons, All-nil},
 }
 use Rattle.folder_drop.specs.{
-  declared.{mail_files.{FileWay.FileWay, Found.Found}, memory_files.MemoryFile.MemoryFile},
-  MailFiles.{Has, HasFile, LacksSome, DropFile},
+  declared.{mail_files.{FileNumber.FileNumber, FileWay.FileWay, Found.Found}, memory_files.MemoryFile.MemoryFile},
+  MailFiles.{Has, HasFile, HasOctetsOf, LacksSome, DropFile},
   MemoryFiles.{memory_file_of, memory_files_in},
 }
 
@@ -17,6 +17,13 @@ lacks_all way file is_there is has = subst (λ (b : Bool). LacksSome (Has way) (
   All-cons (λ (f : DropFile). (false ≡ true) ⊎ Has way f) (memory_file_of file) [] (inr has)
       (All-nil (λ (f : DropFile). (false ≡ true) ⊎ Has way f)),
 )
+
+-- the file's octets are those of each file that is there
+pub has_octets : (file : MemoryFile) (is_there : Bool) (number : FileNumber)
+    → HasOctetsOf (λ (octets : List ℕ). Some octets) (memory_files_in file is_there) number file.content.now
+has_octets file true number = All-cons (λ (f : DropFile). f.number ≡ number → Some file.content.now ≡ Some f.content)
+    (memory_file_of file) [] (λ _. refl) (All-nil (λ (f : DropFile). f.number ≡ number → Some file.content.now ≡ Some f.content))
+has_octets file false number = All-nil (λ (f : DropFile). f.number ≡ number → Some file.content.now ≡ Some f.content)
 
 pub has_file : (way : FileWay) (file : MemoryFile) (is_there : Bool) (what : Found) → is_there ≡ true → Has way (memory_file_of file)
     → what ≡ record { is_regular = true; number = file.number; stamp = file.stamp } → HasFile (memory_files_in file is_there) way what

@@ -53,6 +53,17 @@ abbrev pub Bears : List DropFile → FileWay → Option Found → Type 0
 Bears files way (Some what) = HasFile files way what
 Bears files way None = All (λ (file : DropFile). IsWayTo way (file_place file) → ⊥) files
 
+-- the regular file of this number was found to bear the name
+abbrev pub FoundRegular : (FileWay → Option Found → Type 0) → FileWay → FileNumber → Type 0
+FoundRegular found way number = (what : Found) × found way (Some what) × (what.is_regular ≡ true)
+    × (what.number ≡ number)
+
+-- if this is a regular file, what was opened under a name is known to be that
+abbrev pub TellsHandle : {File : Type 0} → (FileWay → File → Type 0) → (FileWay → FileNumber → File → Type 0) → File
+    → Found → Type 0
+TellsHandle gave opened file what = what.is_regular ≡ true → (way : FileWay) → gave way file
+    → opened way what.number file
+
 -- a handle has the octets of the file of this number, if that is there
 abbrev pub HasOctetsOf : {File : Type 0} → (File → Option (List ℕ)) → List DropFile → FileNumber → File → Type 0
 HasOctetsOf remaining files number handle =

@@ -8,7 +8,7 @@ ghost use Rattle.folder_drop.specs.{
 };
 
 use crate::listed_file::count_size;
-use crate::mail_files::{FileWay, Found, MailFiles};
+use crate::mail_files::{FileNumber, FileWay, Found, MailFiles};
 use crate::maildir_names::{Folder, PlacedFile, Stamp};
 use crate::removal::NOT_REGULAR;
 use crate::seen_files::SeenFiles;
@@ -112,6 +112,22 @@ pub fn stamp<D: MailFiles>(
     Ok(Some(found.stamp))
 }
 
+/// Opens the regular file of this number. NotFound if something else has its name by now, or once it is open.
+pub fn open_regular<D: MailFiles>(
+    files: &D,
+    file: &FileWay,
+    number: FileNumber,
+) -> io::Result<D::File>
+    ensures { IfOk result (D.opened files.now file.now number) }
+{
+    let there = files.look_up(file)?;
+    there.check(number)?;
+    let opened = files.open(file)?;
+    let found = files.stat_opened(&opened)?;
+    found.check(number)?;
+    Ok(opened)
+}
+
 /// Opens a regular file. None if it is gone.
 pub fn open<D: MailFiles>(
     files: &D,
@@ -130,7 +146,7 @@ pub fn open<D: MailFiles>(
         if !found.is_regular {
             return Err(files.refuse(&file, NOT_REGULAR));
         }
-        match files.open(&file, found.number) {
+        match open_regular(files, &file, found.number) {
             Ok(opened) => return Ok(Some(opened)),
             Err(error) if error.kind() == ErrorKind::NotFound => {}
             Err(error) => return Err(error),

@@ -83,8 +83,8 @@ pub trait MailFiles {
       },
       Finding.LooksUp,
       FoldersLook.IsUnchanged,
-      MailFiles.{AreMailFiles, Bears, DropFile, Has, HasOctetsOf, Looks, Skips, Stays, TakesSome, TellsEach},
-      MailFiles.file_place,
+      MailFiles.{AreMailFiles, Bears, DropFile, FoundRegular, Has, HasOctetsOf, Looks, Skips, Stays, TakesSome},
+      MailFiles.{TellsEach, TellsHandle, file_place},
       Places.AreInOrder,
     };
 
@@ -99,10 +99,13 @@ pub trait MailFiles {
     // It answered that this bears a name, or that nothing does.
     ghost found: { Self → FileWay → Option Found → Type 0 };
 
-    // It opened the regular file of this number under a name, to be read so.
+    // It opened this under a name.
+    ghost gave: { Self → FileWay → Self.File → Type 0 };
+
+    // It told of what it opened under a name that it is the regular file of this number, to be read so.
     ghost opened: { Self → FileWay → FileNumber → Self.File → Type 0 };
 
-    // It removed the name of the regular file of this number.
+    // It removed a name, under which the regular file of this number had been found since the last removal.
     ghost removed: { Self → FileWay → FileNumber → Type 0 };
 
     // What is there now under the names that a listing tells: those in UTF-8 that don't begin with a full stop. After
@@ -146,18 +149,25 @@ pub trait MailFiles {
     fn look_up(&self, file: &FileWay) -> io::Result<Found>
         ensures { LooksUp (found self.now file.now) result };
 
-    /// Opens the regular file of this number. NotFound if something else has its name by now.
-    fn open(&self, file: &FileWay, number: FileNumber) -> io::Result<Self::File>
-        ensures { IfOk result (opened self.now file.now number) };
+    /// Opens what bears a name, under which a regular file was found.
+    fn open(&self, file: &FileWay) -> io::Result<Self::File>
+        requires { (number : FileNumber) × FoundRegular (found self.now) file.now number }
+        ensures { IfOk result (gave self.now file.now) };
+
+    /// What was opened.
+    fn stat_opened(&self, file: &Self::File) -> io::Result<Found>
+        ensures { IfOk result (TellsHandle (gave self.now) (opened self.now) file.now) };
 
     /// Goes past so many octets of a file that was opened.
     fn skip(&self, file: &mut Self::File, count: u64) -> io::Result<()>
         ensures { sound self.now → OnOk result
             (Skips (Self.File.remaining file.old) count (Self.File.remaining file.new)) };
 
-    /// Removes the name of the regular file of this number. NotFound if something else has it by now.
-    fn remove(&mut self, file: &FileWay, number: FileNumber) -> io::Result<()>
-        ensures removed { IfOk result (λ _. removed self.new file.now number) }
+    /// Removes a name, under which a regular file was found since the last removal.
+    fn unlink(&mut self, file: &FileWay) -> io::Result<()>
+        requires { (number : FileNumber) × FoundRegular (found self.old) file.now number }
+        ensures removed { (number : FileNumber) → FoundRegular (found self.old) file.now number
+            → IfOk result (λ _. removed self.new file.now number) }
         ensures takes { TakesSome path looked removed sound files (Has file.now) self.old self.new };
 
     /// The error for a name, with the reason.
@@ -182,7 +192,8 @@ pub trait MailFiles {
         → looked d look was → Contains (files d) file → Contains was before → file_place file ≡ file_place before
         → file.stamp ≡ before.stamp → file.content ≡ before.content };
 
-    // inode(7): a folder gets another time of change with each change of its names, once it has rested.
+    // inode(7): a folder gets another time of change with each change of its names, once it has rested. A change within
+    // a file gives it none: by the premise there is no such change.
     ghost rests: { (d : Self) (earlier later : FoldersLook) (was now : List DropFile) → sound d → looked d earlier was
         → looked d later now → IsUnchanged earlier later → was ≡ now };
 
@@ -190,6 +201,6 @@ pub trait MailFiles {
     ghost unlinks: { (d : Self) (way : FileWay) (number : FileNumber) → sound d → removed d way number
         → Bears (files d) way None };
 
-    // Each name is there once.
+    // Each name is there once, and the names of one file have its octets.
     ghost whole: { (d : Self) → sound d → AreMailFiles (files d) };
 }

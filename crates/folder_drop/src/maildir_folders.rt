@@ -12,11 +12,12 @@ ghost use Rattle.folder_drop.specs.{
 };
 
 use crate::folders_look::FoldersLook;
-use crate::mail_files::{FileNumber, FileWay, Found, MailFiles};
+use crate::mail_files::{FileWay, Found, MailFiles};
 use crate::maildir_names::{Folder, PlacedFile};
 use crate::open_folder::{OPEN_FILES, OpenFolder};
 use folder_store::{HostFolders, ProcessMark, Sought, list_both};
 use std::alloc::{AllocError, Global};
+use std::fs::OpenFile;
 use std::hash::RandomState;
 use std::io::{self, ErrorKind, Seek, SeekFrom};
 use std::random::RandomSource;
@@ -157,6 +158,8 @@ impl<'a, R: Files + Clock + RandomSource + AllocGlobal + Clone + Drop> MailFiles
 
     ghost found = { λ _ _ _. Unit {0} };
 
+    ghost gave = { λ _ _ _. Unit {0} };
+
     ghost opened = { λ _ _ _ _. Unit {0} };
 
     ghost removed = { λ _ _ _. Unit {0} };
@@ -221,8 +224,13 @@ impl<'a, R: Files + Clock + RandomSource + AllocGlobal + Clone + Drop> MailFiles
         self.folder(file.folder)?.look_up(file)
     }
 
-    fn open(&self, file: &FileWay, number: FileNumber) -> io::Result<Noted<'a, R::File>> {
-        self.folder(file.folder)?.open_file(file, number)
+    fn open(&self, file: &FileWay) -> io::Result<Noted<'a, R::File>> {
+        self.folder(file.folder)?.open_file(file)
+    }
+
+    fn stat_opened(&self, file: &Noted<'a, R::File>) -> io::Result<Found> {
+        let found = file.metadata()?;
+        Ok(Found::of(&found))
     }
 
     fn skip(&self, file: &mut Noted<'a, R::File>, count: u64) -> io::Result<()> {
@@ -233,10 +241,10 @@ impl<'a, R: Files + Clock + RandomSource + AllocGlobal + Clone + Drop> MailFiles
         Ok(())
     }
 
-    fn remove(&mut self, file: &FileWay, number: FileNumber) -> io::Result<()>
+    fn unlink(&mut self, file: &FileWay) -> io::Result<()>
         ensures { string_bytes self.new.path ≡ string_bytes self.old.path }
     {
-        self.folder(file.folder)?.remove(file, number)
+        self.folder(file.folder)?.unlink(file)
     }
 
     fn refuse(&self, file: &FileWay, words: &str) -> io::Error {

@@ -1,7 +1,7 @@
 //! A Maildir in memory that has one file, or none: all that `MailFiles` says of the calls can hold of one system.
 ghost use Rattle.std.specs.Prelude.{◌≡◌, ◌↔◌, ◌==◌, ◌∷◌, [], None, Some, IfNone, IfSome, IsTrue, length, true};
 ghost use Rattle.folder_drop.specs.{
-  declared.maildir_names.Folder.TheVariants.New,
+  declared.{mail_files.FileNumber.FileNumber, maildir_names.Folder.TheVariants.New},
   MailFiles.{Bears, TellsEach, HasOctetsOf, file_place},
   MemoryFiles.{HasLooked, keeps_content, keeps_whole, memory_file_of, memory_files_in, rests_so},
   Places.IsWayTo,
@@ -32,6 +32,17 @@ impl<'a> MemoryFile<'a> {
         ensures { IsTrue result ↔ IsWayTo way.now (file_place (memory_file_of self.now)) }
     {
         way.folder == self.folder && way.name.as_str() == self.name
+    }
+
+    /// What a look at it tells.
+    fn found(&self) -> Found
+        ensures { result ≡ record { is_regular = true; number = self.now.number; stamp = self.now.stamp } }
+    {
+        Found {
+            is_regular: true,
+            number: self.number,
+            stamp: self.stamp,
+        }
     }
 }
 
@@ -114,6 +125,9 @@ impl<'a> MailFiles for MemoryFiles<'a> {
 
     ghost found = { λ d way what. Bears (memory_files_in d.file d.is_there) way what };
 
+    ghost gave = { λ d way handle. (number : FileNumber) → HasOctetsOf (λ s. Some s.now)
+        (memory_files_in d.file d.is_there) number handle };
+
     ghost opened = { λ d way number handle. HasOctetsOf (λ s. Some s.now) (memory_files_in d.file d.is_there) number
         handle };
 
@@ -165,20 +179,20 @@ impl<'a> MailFiles for MemoryFiles<'a> {
 
     fn look_up(&self, way: &FileWay) -> io::Result<Found> {
         match self.bearer(way) {
-            Some(file) => Ok(Found {
-                is_regular: true,
-                number: file.number,
-                stamp: file.stamp,
-            }),
+            Some(file) => Ok(file.found()),
             None => Err(io::Error::from(ErrorKind::NotFound)),
         }
     }
 
-    fn open(&self, way: &FileWay, number: FileNumber) -> io::Result<&'a [u8]> {
+    fn open(&self, way: &FileWay) -> io::Result<&'a [u8]> {
         match self.bearer(way) {
-            Some(file) if file.number == number => Ok(file.content),
-            _ => Err(io::Error::from(ErrorKind::NotFound)),
+            Some(file) => Ok(file.content),
+            None => Err(io::Error::from(ErrorKind::NotFound)),
         }
+    }
+
+    fn stat_opened(&self, _handle: &&'a [u8]) -> io::Result<Found> {
+        Ok(self.file.found())
     }
 
     fn skip(&self, file: &mut &'a [u8], count: u64) -> io::Result<()> {
@@ -190,13 +204,13 @@ impl<'a> MailFiles for MemoryFiles<'a> {
         Ok(())
     }
 
-    fn remove(&mut self, way: &FileWay, number: FileNumber) -> io::Result<()> {
+    fn unlink(&mut self, way: &FileWay) -> io::Result<()> {
         match self.bearer(way) {
-            Some(file) if file.number == number => {
+            Some(_) => {
                 self.is_there = false;
                 Ok(())
             }
-            _ => Err(io::Error::from(ErrorKind::NotFound)),
+            None => Err(io::Error::from(ErrorKind::NotFound)),
         }
     }
 

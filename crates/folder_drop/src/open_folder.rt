@@ -10,7 +10,7 @@ use crate::maildir_names::Folder;
 use folder_store::ChangeTime;
 use std::alloc::{AllocError, Global};
 use std::fs;
-use std::fs::{OpenFile, OpenOptions};
+use std::fs::OpenOptions;
 use std::io::{self, ErrorKind};
 use std::rt::Files;
 use system_calls::{Noted, System};
@@ -180,9 +180,8 @@ impl<'a, R: Files + AllocGlobal> OpenFolder<'a, R> {
         Ok(Found::of(&found))
     }
 
-    /// Removes the regular file of this number. NotFound if something else has its name by now.
-    pub fn remove(&self, file: &FileWay, number: FileNumber) -> io::Result<()> {
-        self.look_up(file)?.check(number)?;
+    /// Removes a name.
+    pub fn unlink(&self, file: &FileWay) -> io::Result<()> {
         let answer = if os::unlink_at(self.descriptor.number, file.name.as_bytes()) < 0 {
             Err(last_error())
         } else {
@@ -191,9 +190,8 @@ impl<'a, R: Files + AllocGlobal> OpenFolder<'a, R> {
         self.noted("unlink", file, answer)
     }
 
-    /// Opens the regular file of this number. NotFound if something else has its name by now, or once it is open.
-    pub fn open_file(&self, file: &FileWay, number: FileNumber) -> io::Result<Noted<'a, R::File>> {
-        self.look_up(file)?.check(number)?;
+    /// Opens what bears a name.
+    pub fn open_file(&self, file: &FileWay) -> io::Result<Noted<'a, R::File>> {
         let way = file.way.as_str();
         let opened = match reading(is_superuser()).open(self.system.rt, way) {
             // Nobody puts a pipe there.
@@ -202,13 +200,11 @@ impl<'a, R: Files + AllocGlobal> OpenFolder<'a, R> {
             }
             answer => answer,
         };
-        let opened = Noted::new(
+        Ok(Noted::new(
             self.system.alloc(),
             self.noted("open", file, opened)?,
             file.path.as_str(),
             self.system.refusals,
-        );
-        Found::of(&opened.metadata()?).check(number)?;
-        Ok(opened)
+        ))
     }
 }

@@ -6,7 +6,7 @@ ghost use Rattle.std.specs.{
 ghost use Rattle.mail_terms.specs.MaildirName.{base};
 ghost use Rattle.folder_drop.specs.{
   declared.{maildir_names.PlacedFile.PlacedFile, removal.Namesake.Namesake},
-  MailFiles.{Stays, TakesSome},
+  MailFiles.{Has, Stays, TakesSome},
   RealMaildir.listed_name,
   Removal.{AreNamesakes, HasStamp, IsInPlace, IsListedAt, BearsOne, IsNamesake, IsOther, MayGo, NoneIsInPlace},
   Removal.{NoneIsListed, RemovesMessage, RemovesSeen, RemovesWith, SeesAll, TakesMessage, TellsInstead, WasRead},
@@ -14,7 +14,7 @@ ghost use Rattle.folder_drop.specs.{
   SeenFiles.{HaveBase, those_seen},
 };
 
-use crate::finding::{MOST_TRIES, busy};
+use crate::finding::{MOST_TRIES, busy, open_regular};
 use crate::listed_file::{ListedFile, PIECE};
 use crate::mail_files::{FileNumber, FileWay, MailFiles};
 use crate::maildir_names::{PlacedFile, Stamp};
@@ -139,7 +139,7 @@ fn reader<D: MailFiles>(files: &D, file: &Namesake) -> io::Result<BufReader<D::F
     ensures { IfOk result (λ reader. WasRead D.File.remaining (D.opened files.now) file.now
         (⟦<BufReader<D::File> as Read>⟧.remaining reader)) }
 {
-    let opened = files.open(&file.file, file.number)?;
+    let opened = open_regular(files, &file.file, file.number)?;
     let reader = BufReader::with_capacity(files.alloc(), PIECE, opened)?;
     Ok(reader)
 }
@@ -180,6 +180,16 @@ fn place_of_other<D: MailFiles>(
     Ok(None)
 }
 
+/// Removes a name of a regular file. NotFound if something else has it by now.
+fn remove_name<D: MailFiles>(files: &mut D, file: &Namesake) -> io::Result<()>
+    ensures removed { IfOk result (λ _. D.removed files.new file.now.file file.now.number) }
+    ensures takes { TakesSome D.path D.looked D.removed D.sound D.files (Has file.now.file) files.old files.new }
+{
+    let there = files.look_up(&file.file)?;
+    there.check(file.number)?;
+    files.unlink(&file.file)
+}
+
 /// Removes those of these files that are copies of the listed one.
 fn remove_copies<D: MailFiles>(files: &mut D, all: &[Namesake], listed: &Namesake) -> io::Result<()>
     ensures removed { OnOk result (All (λ file. file.number ≢ listed.now.number
@@ -189,7 +199,7 @@ fn remove_copies<D: MailFiles>(files: &mut D, all: &[Namesake], listed: &Namesak
 {
     for file in all {
         if file.number != listed.number {
-            files.remove(&file.file, file.number)?;
+            remove_name(files, file)?;
         }
     }
     Ok(())
@@ -204,7 +214,7 @@ fn remove_names<D: MailFiles>(files: &mut D, all: &[Namesake], listed: &Namesake
 {
     for file in all {
         if file.number == listed.number {
-            files.remove(&file.file, file.number)?;
+            remove_name(files, file)?;
         }
     }
     Ok(())
@@ -243,6 +253,7 @@ fn remove_with<D: MailFiles>(
         all.now) }
     ensures takes { TakesSome D.path D.looked D.removed D.sound D.files (BearsOne all.now) files.old
         files.new }
+    ensures told { IfOk result (λ told. IfSome told (λ _. files.new ≡ files.old)) }
     ensures none { (files.new ≡ files.old) ⊎ All (MayGo D.File.remaining (D.opened files.old) listed.now) all.now }
 {
     let Some(place) = place_of_other(files, all, listed)? else {

@@ -17,9 +17,9 @@ look-tells g x c = record { stays = same_path _ _ _ c.ensures; looks = λ none. 
 pub close-tells : goal.close-tells
 close-tells g x c = record { stays = same_path _ _ _ c.ensures; kept = λ none. absurd none }
 
-pub remove-tells : goal.remove-tells
-remove-tells g x c = record {
-  removed = nothing_told c.result;
+pub unlink-tells : goal.unlink-tells
+unlink-tells g x c = record {
+  removed = λ number found. nothing_told c.result;
   takes = record {
     stays = same_path _ _ _ c.ensures;
     names = λ way number is. is;
