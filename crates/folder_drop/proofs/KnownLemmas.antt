@@ -1,13 +1,13 @@
 -- What is known of the files of a Maildir, and the maildrop that they are.
 use Rattle.std.{
   proofs.Common.{◌≡◌, ◌⊎◌, ◌<◌, ◌≤◌, ◌∙◌, ◌∷◌, [], ℕ, List, Option, Some, None, Ok, Err, Result, true, false},
-  proofs.Common.{ap, arith, get_or, inl, inr, length, map, refl, suc, subst, sym, ⊎_elim},
+  proofs.Common.{ap, arith, cond, get_or, inl, inr, length, map, refl, suc, subst, sym, ⊎_elim},
   proofs.lemmas.{
     Bool.{cases_lt, false≢true},
     List.Elements.All-nil,
     Option.{none-some, same_Some, slice_get-get_or, slice_get-map},
   },
-  specs.{List.{All, HoldsAt, slice_get}, Option.option_map, Prelude.{IfOk, IfSome, Vec, drop, take}},
+  specs.{List.{All, HoldsAt, slice_get}, Option.option_map, Prelude.{◌==◌, Bool, IfOk, IfSome, Vec, drop, take}},
 }
 use Rattle.pop3_wire.specs.World.{Message}
 use Rattle.pop3_server.specs.Maildrop.{ListedMessage, listed_message, there}
@@ -295,9 +295,15 @@ knows_removed {File} remaining E result old new looked more listing earlier i si
     ))
     (cases_lt i (length listing.files))
 
+either : {A : Type 0} (b : Bool) (x y : A) → (cond b x y ≡ y) ⊎ (cond b x y ≡ x)
+either true x y = inr refl
+either false x y = inl refl
+
 pub renewed_was : (looked more : FoldersLook → List DropFile → Type 0) (last earlier newer : FileListing)
-    → ((look : FoldersLook) (was : List DropFile) → looked look was → more look was) → (newer ≡ last) ⊎ (newer ≡ earlier)
+    → ((look : FoldersLook) (was : List DropFile) → looked look was → more look was)
+    → newer ≡ cond (length last.files == 0) earlier last
     → WasListed looked last → WasListed looked earlier → WasListed more newer
-renewed_was looked more last earlier newer stays one was before = ⊎_elim
-    (λ same. subst (WasListed more) (sym same) (still_was looked more last stays was))
-    (λ same. subst (WasListed more) (sym same) (still_was looked more earlier stays before)) one
+renewed_was looked more last earlier newer stays is was before = ⊎_elim
+    (λ same. subst (WasListed more) (sym (is ∙ same)) (still_was looked more last stays was))
+    (λ same. subst (WasListed more) (sym (is ∙ same)) (still_was looked more earlier stays before))
+    (either (length last.files == 0) earlier last)

@@ -62,3 +62,9 @@ part_of {File} remaining files listed text piece count (Some left) within own on
         ),
       ),
     )
+
+-- what is asked of a file that is read on is asked of none
+pub none_goes : {File : Type 0} (kept : Option (OpenText File)) (P Q : OpenText File → Type 0) → IfSome kept (λ text. P text → ⊥)
+    → IfSome kept (λ text. P text → Q text)
+none_goes None P Q none = tt
+none_goes (Some text) P Q none = λ goes. absurd (none goes)

@@ -9,6 +9,10 @@ use Rattle.folder_drop.specs.{
   MailFiles.DropFile,
 }
 
+-- the file that is open is read on: it is that of this place, and was read up to `start`, behind its first octet
+abbrev pub IsReadOn : {File : Type 0} → ℕ → ℕ → OpenText File → Type 0
+IsReadOn place start text = (text.place ≡ place) × (text.read ≡ start) × (0 < start)
+
 -- a read gave so many octets of the piece: none at the end of the file, which isn't kept then; else the file is kept,
 -- and was read on by as many
 abbrev pub ReadsOn : {File : Type 0} → (File → Option (List ℕ)) → OpenText File → List ℕ → ℕ → Option (OpenText File)

@@ -2,7 +2,7 @@
 //! format a name stays the same up to its first colon; flags follow.
 ghost use Rattle.std.specs.{
   IoError.error_kind,
-  Prelude.{◌≡◌, ◌≢◌, ◌≤◌, ◌<◌, ◌+◌, ◌^◌, length, map, vec_len, IfOk, IfErr, IsTrue, Ok, None, []},
+  Prelude.{◌≡◌, ◌≢◌, ◌≤◌, ◌<◌, ◌+◌, ◌^◌, ◌↔◌, length, map, vec_len, IfOk, IfErr, IsTrue, Ok, None, []},
   String.string_bytes,
 };
 ghost use Rattle.mail_terms.specs.{
@@ -86,7 +86,7 @@ where
 
 /// Keeps the two messages that a removal told, if it did. Returns whether the message is removed.
 fn is_removed(not_removed: &mut Vec<TwoMessages>, told: io::Result<Option<TwoMessages>>) -> bool
-    ensures { IsTrue result → told ≡ Ok None }
+    ensures { IsTrue result ↔ told ≡ Ok None }
 {
     match told {
         Ok(None) => true,

@@ -1,7 +1,7 @@
 //! The files of a Maildir with what is known of them: what was listed, where files were seen, and the one that is read.
 ghost use Rattle.std.specs.{
   List.HoldsAt,
-  Prelude.{◌≡◌, ◌⊎◌, ◌≤◌, ◌<◌, ◌+◌, ◌^◌, [], None, false, length, map, vec_len, IfOk},
+  Prelude.{◌≡◌, ◌==◌, ◌≤◌, ◌<◌, ◌+◌, ◌^◌, if◌then◌else◌, [], None, false, length, map, vec_len, IfOk},
 };
 ghost use Rattle.mail_terms.specs.Distinct.{AreDistinct};
 ghost use Rattle.folder_drop.specs.{
@@ -26,7 +26,7 @@ use std::{io, mem};
 
 /// The last listing, or the one before it if it lists nothing.
 fn newer(last: DropListing, earlier: DropListing) -> DropListing
-    ensures { (result ≡ last) ⊎ (result ≡ earlier) }
+    ensures { result ≡ (if length last.files == 0 then earlier else last) }
 {
     if last.files().is_empty() {
         earlier

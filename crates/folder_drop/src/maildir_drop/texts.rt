@@ -2,13 +2,13 @@
 ghost use Rattle.std.specs.{
   IoError.error_kind,
   List.HoldsAt,
-  Prelude.{◌≡◌, ◌⊎◌, ◌≤◌, ◌<◌, ◌+◌, ◌^◌, true, length, IfOk, IfSome, OnOk, Some},
+  Prelude.{◌≡◌, ◌⊎◌, ◌≤◌, ◌<◌, ◌+◌, ◌^◌, true, length, IfNone, IfOk, IfSome, Ok, OnOk, Some},
 };
 ghost use Rattle.folder_drop.specs.{
   Finding.IsOpenAt,
   MaildirMail.{IsKnown, IsOwn, IsWholeText},
   MailFiles.{Skips, Stays},
-  OpenText.{IsOwnFrom, IsTextPart, ReadsOn},
+  OpenText.{IsReadOn, IsOwnFrom, IsTextPart, ReadsOn},
   Removal.{RemovesMessage, SeesAll, SeesSince, TakesMessage, WereSeenSince},
   SeenFiles.those_seen,
 };
@@ -25,12 +25,14 @@ use std::io::{self, ErrorKind, Read};
 /// file is read anew.
 fn going_on<F: Drop>(kept: Option<OpenText<F>>, place: usize, start: usize) -> Option<OpenText<F>>
     ensures same { IfSome result (λ text. kept ≡ Some text) }
-    ensures there { IfSome result (λ text. (text.place ≡ place) × (text.read ≡ start) × (0 < start)) }
+    ensures there { IfSome result (IsReadOn place start) }
+    ensures none { IfNone result (IfSome kept (λ text. IsReadOn place start text → ⊥)) }
 {
-    match kept {
-        Some(text) if start > 0 && text.place == place && text.read == start => Some(text),
-        _ => None,
+    let text = kept?;
+    if text.place == place && text.read == start && start > 0 {
+        return Some(text);
     }
+    None
 }
 
 /// Reads on in a file. It isn't kept once its end is read.
@@ -147,6 +149,7 @@ fn text_at<D: MailFiles>(
     i: usize,
     start: usize,
 ) -> io::Result<OpenText<D::File>>
+    ensures same { IfSome kept (λ before. IsReadOn i start before → result ≡ Ok before) }
     ensures there { IfOk result (λ text. (text.place ≡ i) × (text.read ≡ start)) }
     ensures own { D.sound files.now → IfOk result (λ text. HoldsAt (λ listed. IsKnown (D.files files.now) listed
         → IfSome kept (λ before. before.place ≡ i → IsOwnFrom D.File.remaining (D.files files.now) listed before)

@@ -17,7 +17,7 @@ returns-then-is_removed-clause-removes g c = λ s.
     rw (← c.self.view_is, c.remove_file-told.ensures.same) (
       took.0,
       s.1,
-      removes g.D.MailFiles.sound g.D.MailFiles.files c.remove_file-told.result c.args.i old new slot (c.if-is_removed.ensures refl) asks
+      removes g.D.MailFiles.sound g.D.MailFiles.files c.remove_file-told.result c.args.i old new slot (c.if-is_removed.ensures.0 refl) asks
           refl,
     )
 
