@@ -28,10 +28,13 @@ size_of_entry entry = entry.size
 abbrev pub size_of_file : ListedFile → ℕ
 size_of_file file = file.size
 
+abbrev pub listed_ids : List ListedFile → List (List ℕ)
+listed_ids files = map id_of_name (listed_names files)
+
 -- they have different ids, are in the order of their bases, and keep the limits
 pub record AreMessages (files : List ListedFile) : Type 0 where
   pub ascending : AreAscending (listed_names files)
-  pub distinct : AreDistinct (map id_of_name (listed_names files))
+  pub distinct : AreDistinct (listed_ids files)
   pub count : length files ≤ max_count
   pub sizes : All (λ (file : ListedFile). file.size ≤ max_size) files
 
@@ -55,9 +58,6 @@ AreSeen {Z} {S} seen ids = (key : Vec ℕ Z) → Contains ids key.items → leng
 -- and no other id
 abbrev pub HasNoOther : {Z S : Type 0} → HashSet (Vec ℕ Z) S → List (List ℕ) → Type 0
 HasNoOther {Z} {S} seen ids = (key : Vec ℕ Z) → contains same_key seen key ≡ true → Contains ids key.items
-
-abbrev pub listed_ids : List ListedFile → List (List ℕ)
-listed_ids files = map id_of_name (listed_names files)
 
 -- the files are those of messages, and the set has their ids that are as long as a digest, and no other one
 pub record AreListed {Z S : Type 0} (seen : HashSet (Vec ℕ Z) S) (files : List ListedFile) : Type 0 where

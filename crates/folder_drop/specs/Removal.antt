@@ -16,7 +16,7 @@ use Rattle.folder_drop.specs.{
   },
   MailFiles.{Has, LacksSome, DropFile, file_place},
   MaildirMail.is_namesake,
-  Places.folder_and_name,
+  Places.{IsWayTo, folder_and_name},
   RealMaildir.listed_name,
   SameOctets.TellsSame,
   SeenFiles.{HaveBase, those_seen},
@@ -56,18 +56,14 @@ NoneIsListed files stamp = NoneIsInPlace files × All (λ (file : Namesake). fil
 abbrev pub IsPlaceOf : ListedFile → PlacedFile → Type 0
 IsPlaceOf listed file = (listed.folder ≡ file.folder) × (listed_name listed ≡ string_bytes file.name)
 
--- a name leads to the place where the file was seen
-abbrev pub LeadsToPlace : FileWay → PlacedFile → Type 0
-LeadsToPlace way file = (way.folder ≡ file.folder) × (string_bytes way.name ≡ string_bytes file.name)
-
 -- a file that was seen with a message's base was found there: a regular file, or else nothing that may be removed, not
 -- in the message's own place
 abbrev pub IsNamesake : (FileWay → Option Found → Type 0) → ListedFile → PlacedFile → Option Namesake → Type 0
-IsNamesake found listed seen (Some file) = LeadsToPlace file.file seen
+IsNamesake found listed seen (Some file) = IsWayTo file.file (folder_and_name seen)
     × (IsTrue file.is_in_place ↔ IsPlaceOf listed seen)
     × ((what : Found) × found file.file (Some what) × (what.is_regular ≡ true) × (file.number ≡ what.number)
     × (file.stamp ≡ what.stamp))
-IsNamesake found listed seen None = (way : FileWay) × (other : Found) × LeadsToPlace way seen
+IsNamesake found listed seen None = (way : FileWay) × (other : Found) × IsWayTo way (folder_and_name seen)
     × found way (Some other) × (other.is_regular ≡ false) × (IsPlaceOf listed seen → ⊥)
 
 -- of the files that were seen with a message's base, these are the regular ones, as they were found: each of these is
