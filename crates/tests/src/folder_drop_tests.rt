@@ -3,10 +3,11 @@
 use folder_drop::{FilesDrop, MemoryFiles};
 use pop3_server::{DropFault, Maildrop};
 use std::hash::RandomState;
+use std::process::Abort;
 use std::test::Fail;
 
 /// Lists the message of a maildrop, and reads it, whole and in parts.
-fn read_message(rt: &HostRuntime, maildrop: &mut FilesDrop<MemoryFiles<'_>>) -> Result<(), Fail> {
+fn read_message(rt: &impl Abort, maildrop: &mut FilesDrop<MemoryFiles<'_>>) -> Result<(), Fail> {
     let entries = maildrop.entries()?;
     let [entry] = entries.as_slice() else {
         return Err(Fail::new("one message"));
