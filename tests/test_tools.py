@@ -61,6 +61,9 @@ Kept event = Hidden Gone
 """,
     "high/specs/Hidden.antt": """\
 use Rattle.low.specs.{Words.unused}
+
+-- read(2) { or not: nothing is shown; EINTR:
+-- nothing was done
 abbrev pub Hidden : ℕ → ℕ
 Hidden n = unused
 """,
@@ -78,22 +81,43 @@ pub enum Kind {
     "high/src/device.rt": """\
 ghost use Rattle.high.specs.Hidden.{Hidden};
 
+/// A part of one.
+pub trait Part {
+    // It told this.
+    ghost told: { Self → ℕ → Type 0 };
+}
+
+impl Part for u8 {
+    ghost told = { λ _ _. Unit {0} };
+}
+
 /// A device.
 pub trait Device {
+    type Part: Part;
+
     // The premise.
     ghost sound: { Self → Type 0 };
 
     // What it counted.
     ghost counted: { Self → ℕ → Type 0 };
 
-    /// Reads { or not.
+    /// read(2) { or not.
     fn read(&mut self, buf: &mut [u8; 4]) -> bool
         requires { Hidden 3 }
         ensures within { result ≡ true }
         ensures reads { sound self.new → sound self.old × Hidden { } };
 
+    /// open(2), and then
+    /// getdents(2).
     fn count(&self) -> u64
         ensures { counted self.now result };
+
+    /// fstat(2) of a folder.
+    fn tell(&self, part: &Self::Part) -> u64
+        ensures { Self.Part.told part.now result };
+
+    fn close(&mut self)
+        ensures { sound self.new → sound self.old };
 
     /// Is refused or not.
     fn flush(&mut self) -> Result<(), Fault>
@@ -105,12 +129,17 @@ pub trait Device {
 
     // At first it counts nothing.
     ghost begins: { (d : Self) → sound d → counted d 0 };
+
+    // read(2) after open(2).
+    ghost ends: { (d : Self) → sound d → Hidden 4 };
 }
 
 /// Real.
 pub struct Real;
 
 impl Device for Real {
+    type Part = u8;
+
     ghost sound = { λ _. ⊥ };
 
     ghost counted = { λ _ _. Unit {0} };
@@ -124,12 +153,20 @@ impl Device for Real {
     fn count(&self) -> u64 {
         0
     }
+
+    fn tell(&self, part: &u8) -> u64 {
+        u64::from(*part)
+    }
+
+    fn close(&mut self) {}
 }
 
 /// Made over another.
 pub struct Over<D>(D);
 
 impl<D: Device> Device for Over<D> {
+    type Part = D::Part;
+
     ghost sound = { λ d. D.sound d.0 };
 
     ghost counted = { λ d. D.counted d.0 };
@@ -140,6 +177,14 @@ impl<D: Device> Device for Over<D> {
 
     fn count(&self) -> u64 {
         self.0.count()
+    }
+
+    fn tell(&self, part: &D::Part) -> u64 {
+        self.0.tell(part)
+    }
+
+    fn close(&mut self) {
+        self.0.close()
     }
 }
 
@@ -170,8 +215,8 @@ pub fn law<D: Device>()
 }
 
 
-def small_tree(folder):
-    for path, text in SMALL.items():
+def small_tree(folder, texts=SMALL):
+    for path, text in texts.items():
         file = Path(folder) / "crates" / path
         file.parent.mkdir(parents=True, exist_ok=True)
         file.write_text(text)
@@ -218,17 +263,72 @@ def test_contracts(sources):
     assert lines == ["pub fn law<D: Device>()", "    ensures first { Law }", "    ensures kept { Kept }"]
 
 
+ASSUMED = """
+fstat(2) of a folder
+   1  Real, tell: fstat(2) of a folder. told: It told this.
+        Part.told part.now result
+
+read(2)
+   2  Real, read: read(2) { or not: nothing is shown; EINTR: nothing was done.
+        Hidden { }
+   3  Real, law ends: read(2) after open(2). Hidden: read(2) { or not: nothing is shown; EINTR: nothing was done.
+        (d : Self) → sound d → Hidden 4
+
+Laws that name no call
+   4  Real, law begins: At first it counts nothing.
+        (d : Self) → sound d → counted d 0
+
+Several calls of the system in one method
+   5  Real, count: open(2), and then getdents(2). counted: What it counted.
+        counted self.now result
+
+  4 calls of the system, 2 of them only in methods of several; 3 clauses and 2 laws, by devices:
+  Real, a Device (crates/high/src/device.rt): 3 clauses and 2 laws"""
+
+
+def test_assumptions(sources):
+    """What is assumed of a device is what its trait says under the premise, unless the method's body is in the trait or
+    it says no more than that the premise held, and what it says by members that the device and its types leave open."""
+    assert list(axioms.assumptions(axioms.Programs(sources, ["low", "high"]))) == ASSUMED.split("\n")
+
+
+# Changes of a small tree, and a line that it prints then, or what it is refused for.
+CHANGED = [
+    ("/// read(2) { or not.", "/// Reads.", "Device::read: no comment names its call of the system"),
+    ("-- read(2) { or not: nothing is shown; EINTR:\n-- nothing was done\n", "", "Device::read: no comment says what Hidden is"),
+    ("    // What it counted.\n", "", "Device::count: no comment says what counted is"),
+    ("    // At first it counts nothing.\n", "", "Device::begins: no comment names its call of the system"),
+    ("-- read(2) { or not:", "-- read(2):",
+     "   2  Real, read: read(2) { or not. Hidden: read(2): nothing is shown; EINTR: nothing was done."),
+    ("    // read(2) after open(2).", "    // At last.",
+     "   4  Real, law ends: At last. Hidden: read(2) { or not: nothing is shown; EINTR: nothing was done."),
+    ("ensures within { result ≡ true }", "ensures within { sound self.new → sound self.old × Late }", "        Late"),
+    ("ensures within { result ≡ true }", "ensures within { sound self.new → sound self.old }",
+     "  Real, a Device (crates/high/src/device.rt): 3 clauses and 2 laws"),
+    ("ghost sound = { λ _. ⊥ };", "ghost sound = { λ _. Unit {0} };",
+     "  0 calls of the system, 0 of them only in methods of several; 0 clauses, by devices:"),
+]
+
+
+def test_changes():
+    """A clause, a law or a device that is new is printed, and one without its comment refused."""
+    for was, now, told in CHANGED:
+        assert sum(was in text for text in SMALL.values()) == 1, was
+        with tempfile.TemporaryDirectory() as folder:
+            sources = small_tree(folder, {path: text.replace(was, now) for path, text in SMALL.items()})
+            try:
+                lines = list(axioms.assumptions(axioms.Programs(sources, ["low", "high"])))
+            except SystemExit as refused:
+                lines = [str(refused)]
+        assert told in lines, (was, told, lines)
+
+
 def test_axioms(sources):
-    """What is assumed of a device is what its trait says under the premise, unless the call's body is in the trait, and what it
-    says by members that the device leaves open; the code for it is uncovered, and so is what has no contract."""
+    """The code for what is only assumed is uncovered, and so is what has no contract."""
     programs = axioms.Programs(sources, ["low", "high"])
-    assert [line.split() for line in axioms.assumptions(programs) if line] == [
-        "Real, a Device (crates/high/src/device.rt): 2 clauses and 1 laws are assumed, 3 are proved".split(),
-        "1 read reads Hidden { }".split(), "2 count counted self.now result".split(),
-        "3 law begins (d : Self) → sound d → counted d 0".split()]
     assert list(axioms.premises(programs)) == ["  Over, a Device (crates/high/src/device.rt): λ d. D.sound d.0"]
     assert list(axioms.excuses(programs)) == ["  Device: flush may be refused"]
-    assert list(axioms.uncovered_code(programs)) == ["  high 12: device.rt 12", "  12 lines in all, of 28 of functions"]
+    assert list(axioms.uncovered_code(programs)) == ["  high 16: device.rt 16", "  16 lines in all, of 38 of functions"]
     assert [axioms.PINS_NOTHING.fullmatch(clause) is None for clause in (
         "result ≡ 3", "IsTrue result ↔ a.now < 3", "IfErr result (λ e. e ≡ found.now)", "result ≤ 2", "Tallies a b c",
         "IfErr result (λ e. e ≡ Fault.Refused)", "IsTrue result → length a.now ≤ 4",
@@ -261,9 +361,13 @@ def test_this_tree():
 
 
 def test_excuses():
-    """Each definition that is said to excuse a device is one that a trait's clauses lead to."""
-    said = "\n".join(axioms.excuses(axioms.Programs(Sources(), axioms.crates_of(axioms.PROGRAMS))))
+    """Each definition that is said to excuse a device is one that a trait's clauses lead to, and each name in the other
+    tables of the tool is one of the sources."""
+    programs = axioms.Programs(Sources(), axioms.crates_of(axioms.PROGRAMS))
+    said = "\n".join(axioms.excuses(programs))
     assert not [name for name in axioms.EXCUSES if f"(`{name}`)" not in " ".join(said.split())]
+    methods = {f"{trait}::{function.name}" for trait, functions in programs.traits.items() for function in functions}
+    assert set(axioms.UNNAMED) <= methods and axioms.WRAPPERS <= set(programs.said)
 
 
 def test_unread():
@@ -302,8 +406,10 @@ def old_texts():
 def main():
     with tempfile.TemporaryDirectory() as folder:
         sources = small_tree(folder)
-        for test in (test_order, test_what_is_not_opened, test_what_is_read, test_contracts, test_axioms):
+        for test in (test_order, test_what_is_not_opened, test_what_is_read, test_contracts, test_assumptions,
+                     test_axioms):
             test(sources)
+    test_changes()
     test_this_tree()
     test_excuses()
     test_unread()

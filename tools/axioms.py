@@ -10,6 +10,7 @@ import re
 import subprocess
 import sys
 import textwrap
+from itertools import count, takewhile
 from typing import NamedTuple
 
 from sources import TOP, Sources, print_whole, without_comments, words_of
@@ -21,13 +22,28 @@ from build import crates_of  # noqa: E402 (the path has to be there first)
 
 PROGRAMS = ("getmail", "popd")
 UNKNOWN = "λ _. ⊥"
-WHERE_SOUND = "sound self.new → sound self.old × "
+WHERE_SOUND = "sound self.new → sound self.old"
+CALL = re.compile(r"(\w+\(2\))(?: with O_CREAT| of a folder)?")
+SEVERAL, NONE = "Several calls of the system in one method", "Laws that name no call"
+# Relations that don't say what a call did.
+WRAPPERS = {"Did", "IsAbsent", "IsSame", "WhereSound"}
+# What the comment at a method doesn't say of the calls that it makes.
+UNNAMED = {
+    "Wire::send": "send(2), until all is sent.",
+    "Wire::recv": "recv(2), again if it was interrupted.",
+    "FileCalls::flush_targets": "With open(2).",
+    "SharedCalls::list": "With open(2), clock_gettime(2), clock_nanosleep(2).",
+    "SharedCalls::flush_pass": "With the calls of `list`, lstat(2), stat(2), fstat(2), readlink(2).",
+    "SharedCalls::fsync_folder": "The folder is opened before, unless it is open.",
+}
 FUNCTION = re.compile(r"^( *)(?:pub(?:\([a-z]+\))? )?(?:const )?fn (\w+)", re.MULTILINE)
 TRAIT = re.compile(r"^(?:pub(?:\(crate\))? )?trait (\w+)(?:<[^>]*>)?(?:: ([^{;]*))?[^{;]*\{", re.MULTILINE)
 HANDLE = re.compile(r"\b(Threads|Wait|Net|Processes)\b[<+ ]")
 NAMES_PREMISE = re.compile(r"\bsound\b")
 GHOST = re.compile(r"\bghost (\w+):")
 MEMBER = re.compile(r"\bghost (\w+): \{")
+COMMENTED = re.compile(r"((?:^ *//.*\n)+) +(?:ghost|fn) (\w+)", re.MULTILINE)
+TYPE = re.compile(r"^ +type (\w+): (\w+)", re.MULTILINE)
 OPEN = re.compile(r"\bghost (\w+) = \{ λ[ _]*\. Unit \{0\} \};")
 # Traits of std whose calls do what the impl says by this member, if it gives it.
 STATED = {"Display": "output", "From": "from_gives"}
@@ -38,19 +54,24 @@ PINS_NOTHING = re.compile(r"Tallies .*|self\.new ≡ record self\.old \{ failure
                           r"|[^≡↔×≢→]*(?:→[^≡↔×≢→]*)? [≤<] [^≡↔×≢→]*")
 
 ASSUMED = """\
-1. Devices of which nothing is known: `sound`, their premise, is ⊥. The code over them is generic, and proved for each
-   device that does what its trait says. So each clause of the trait that holds only where `sound` does is assumed of
-   them, unless the call's body is in the trait: then it is proved. Each is printed without the words `sound self.new
-   → sound self.old ×` before it. A law of the trait under that premise is assumed too. The other ghost members of
-   such a device (`tree`, `shared`, `made`, `opened`, `told`, `was_free` and so on) are placeholders, as `sound` is:
-   it is assumed that there are some for which all clauses of the trait hold, also those that are proved of the
-   placeholders; one that names no other members is counted as assumed. `remaining`, what reads will give, is one too
-   for the files that MaildirFolders opens: std says that it isn't known of them. docs/STATEMENT.txt has the traits
-   Wire, MaildirDisk and FlatFile with what their names mean, and 9 has the others. What can't be opened may come to
-   the folders and go at any moment, so no clause says where such names (`closed_new`, `closed_cur`) come from. Of
-   CallsShared it is assumed that a listing shows exactly those that are there then (`ListsIn`), and that what each
-   name led to then it leads to until it is looked at, unless it is a file's that moved or went: a message whose name
-   is one of what can't be opened isn't fetched. All that is above it is proved to tell just these."""
+1. What is assumed of the system, call by call. Of some devices nothing is known: `sound`, their premise, is ⊥. The code
+   over them is generic, and proved for each device that does what its trait says. So what a trait says only where
+   `sound` holds is assumed of them: laws, and clauses of methods whose body isn't in the trait. The clauses are printed
+   without the words `sound self.new → sound self.old ×`. One that has no others assumes nothing of the system, and is
+   left out. The other ghost members of such a device (`tree`, `shared`, `made`, `told` and so on) are placeholders too:
+   it is assumed that there are some for which all that the trait says holds, also what is proved of the placeholders. A
+   clause that names no other members is printed too. `remaining`, what reads will give, is a placeholder for the files
+   that MaildirFolders opens: std says that it isn't known of them.
+   What a call does depends on who else changes the files; at `sound` each trait says what is assumed of that. HostCalls
+   has files of our own, OpenAt those without a name yet, CallsShared folders in which mail readers move files before
+   each call (`Did`), and MaildirFolders those of a server. StreamWire is a socket. The words before clauses are the
+   comments at the method and at the relations that the clauses name, or at the ghost members if they name none.
+   docs/STATEMENT.txt has the traits Wire, MaildirDisk and FlatFile with what their names mean, and 9 has the others.
+   What can't be opened may come to the folders and go at any moment, so no clause says where such names (`closed_new`,
+   `closed_cur`) come from. Of CallsShared it is assumed that a listing shows exactly those that are there then
+   (`ListsIn`), and that what each name led to then it leads to until it is looked at, unless it is a file's that moved
+   or went: a message whose name is one of what can't be opened isn't fetched. All that is above it is proved to tell
+   just these."""
 PREMISES = """\
 2. The premises of the other devices. What their traits say is proved, for one over another device as far as that one
    does what its trait says."""
@@ -139,6 +160,17 @@ def one_line(text):
     return " ".join(text.split())
 
 
+def comments_in(text):
+    """What the comment before each member of the traits of a text says, by their names."""
+    for trait in re.finditer(r"^(?:pub(?:\(crate\))? )?trait (\w+)\b.*?^}", text, re.MULTILINE | re.DOTALL):
+        for found in COMMENTED.finditer(trait[0]):
+            yield f"{trait[1]}::{found[2]}", one_line(re.sub(r"^ *///? ?", "", found[1], flags=re.MULTILINE))
+
+
+def wrapped(text, first, rest):
+    return textwrap.wrap(text, 118, initial_indent=first, subsequent_indent=rest, break_on_hyphens=False)
+
+
 def function_at(text, found):
     """The function whose first line this match is of: its clauses come before its body, or before a semicolon."""
     at, depth, clauses = found.end(), 0, []
@@ -186,12 +218,17 @@ class Programs:
         self.traits = {name: functions_in(body + "\n") for name, body in bodies.items()}
         self.ghosts = {name: set(GHOST.findall(body)) for name, body in bodies.items()}
         self.laws = {name: list(laws_in(body)) for name, body in bodies.items()}
+        self.types = {name: TYPE.findall(body) for name, body in bodies.items()}
+        self.comments = {name: comment for crate, file in self.files
+                         for name, comment in comments_in(sources.text(crate, file))}
         self.above = {found[1]: re.findall(r"\w+", found[2] or "") for found, _ in traits}
         self.impls = {(impl.type, impl.trait): impl for text in self.files.values() for impl in impls_in(text)}
         specs = [(crate, f"specs/{file.name}") for crate in crates
                  for file in (self.top / "crates" / crate / "specs").glob("*.antt")]
-        self.named = {name: words_of(lines) for crate, file in specs
-                      for name, lines in sources.definitions(crate, file).lines.items()}
+        defined = [each for crate, file in specs for each in sources.definitions(crate, file).lines.items()]
+        self.named = {name: words_of(lines) for name, lines in defined}
+        self.said = {name: " ".join(line[3:] for line in takewhile(lambda line: line.startswith("-- "), lines))
+                     for name, lines in defined}
 
     def premise(self, impl):
         """What the impl says of `sound`, or that of a trait above."""
@@ -229,10 +266,24 @@ class Programs:
             if not self.is_open(impl, text):
                 yield text
 
+    def members(self, impl):
+        """The ghost members that the clauses of an impl's trait may name, its own and those of its types: the impl of
+        each, and its name there."""
+        types = [(f"{name}.", self.impls.get((re.search(rf"\btype {name} = (\w+)|$", impl.text)[1], trait)))
+                 for name, trait in self.types[impl.trait]]
+        return {front + ghost: (each, ghost) for front, each in [("", impl), *types] if each
+                for ghost in self.ghosts.get(each.trait, ())}
+
+    def named_members(self, impl, text):
+        """Those that a clause names."""
+        members = self.members(impl)
+        words = re.findall(r"(?:\b[A-Z]\w*\.)?\b\w+\b(?!\.)", text.replace("Self.", ""))
+        return [members[word] for word in dict.fromkeys(words) if word in members]
+
     def is_open(self, impl, text):
         """Whether a clause says only what the impl leaves open."""
-        named = self.ghosts[impl.trait] & set(re.findall(r"\w+\b(?!\.)", text))
-        return named != set() and named <= set(OPEN.findall(impl.text))
+        named = self.named_members(impl, text)
+        return named != [] and all(ghost in OPEN.findall(each.text) for each, ghost in named)
 
     def is_covered(self, impls, function):
         """Whether its own clauses, or else those of its trait, say what the function does, and aren't only assumed."""
@@ -262,21 +313,85 @@ class Programs:
                 yield str(path.relative_to(self.top))
 
 
+class Assumed(NamedTuple):
+    """What is assumed of a device by a method or a law: the call of the system below which it stands, the man pages of
+    its calls, what is said of it, and its clauses."""
+
+    head: str
+    pages: set
+    words: str
+    clauses: list
+    is_law: bool
+
+    def printed(self, number):
+        yield from wrapped(self.words, f"  {number:2}  ", " " * 6)
+        for clause in self.clauses:
+            yield from wrapped(clause.replace("Self.", "").removeprefix(f"{WHERE_SOUND} × "), " " * 8, " " * 10)
+
+
+def said_by(programs, impl, clauses, is_law):
+    """What is said of the relations that some clauses name, or, if a method's name none, of the ghost members."""
+    code = re.sub(r"\((?:\w+ )+: [^()]*\)", "", " ".join(clauses))
+    relations = {word: programs.said[word] for word in words_of([code])
+                 if word[0].isupper() and word in programs.said and word not in WRAPPERS}
+    return relations or {ghost: programs.comments.get(f"{each.trait}::{ghost}")
+                         for each, ghost in programs.named_members(impl, code) if not is_law and ghost != "sound"}
+
+
+def assumed(programs, impl, name, clauses, is_law=False):
+    """What is said at the method is left out if what is said at a relation begins with it."""
+    member = f"{impl.trait}::{name}"
+    comment, more = programs.comments.get(member, ""), UNNAMED.get(member)
+    if more:
+        comment = f"{comment} {more}" if CALL.search(comment) else more
+    said, calls = said_by(programs, impl, clauses, is_law), {found[0]: found[1] for found in CALL.finditer(comment)}
+    if not calls and not (is_law and comment):
+        raise SystemExit(f"{member}: no comment names its call of the system")
+    if unsaid := [word for word, words in said.items() if not words]:
+        raise SystemExit(f"{member}: no comment says what {unsaid[0]} is")
+    parts = [f"{word}: {words}" for word, words in said.items()]
+    if not any(words.startswith(comment.rstrip(".")) for words in said.values()):
+        parts.insert(0, comment)
+    elif len(parts) == 1:
+        parts = said.values()
+    pages = set(calls.values())
+    head = SEVERAL if len(pages) > 1 and not is_law else next(iter(calls), NONE)
+    words = " ".join(f"{part.rstrip('.')}." for part in parts)
+    return Assumed(head, pages, f"{impl.type}, {'law ' * is_law}{name}: {words}", clauses, is_law)
+
+
+def assumed_of(programs, impl):
+    """What is assumed of a device, by its methods and then by laws."""
+    clauses = {}
+    for call, _, text, is_given in programs.clauses(impl):
+        is_assumed = NAMES_PREMISE.search(text) or programs.is_open(impl, text)
+        if is_assumed and not is_given and text != WHERE_SOUND:
+            clauses.setdefault(call, []).append(text)
+    return [*(assumed(programs, impl, name, texts) for name, texts in clauses.items()),
+            *(assumed(programs, impl, name, [law], is_law=True) for name, law in programs.laws[impl.trait])]
+
+
+def counted(found):
+    """How many clauses and laws there are."""
+    laws = sum(each.is_law for each in found)
+    return f"{sum(len(each.clauses) for each in found) - laws} clauses" + (f" and {laws} laws" if laws else "")
+
+
 def assumptions(programs):
-    number = 0
-    for impl, place in programs.devices():
-        if programs.premise(impl) != UNKNOWN:
-            continue
-        clauses = list(programs.clauses(impl))
-        mine = [clause[:3] for clause in clauses
-                if not clause[3] and (NAMES_PREMISE.search(clause[2]) or programs.is_open(impl, clause[2]))]
-        rest = len(clauses) - len(mine)
-        laws = programs.laws[impl.trait]
-        with_laws = f" and {len(laws)} laws" if laws else ""
-        yield from ("", f"{impl.type}, a {impl.trait} ({place}): {len(mine)} clauses{with_laws} are assumed, {rest} are proved")
-        for call, label, text in [*mine, *(("law", name, law) for name, law in laws)]:
-            number += 1
-            yield f"  {number:2}  {call + (' ' + label if label else ''):20} {text.replace('Self.', '').removeprefix(WHERE_SOUND)}"
+    devices = [(f"  {impl.type}, a {impl.trait} ({place})", assumed_of(programs, impl))
+               for impl, place in programs.devices() if programs.premise(impl) == UNKNOWN]
+    found = [each for _, parts in devices for each in parts]
+    heads, number = sorted({each.head for each in found}, key=lambda head: (head[0].isupper(), head)), count(1)
+    for head in heads:
+        yield from ("", head)
+        for each in found:
+            if each.head == head:
+                yield from each.printed(next(number))
+    pages = set().union(*(each.pages for each in found))
+    alone = pages & {head.partition(" ")[0] for head in heads}
+    yield from ("", f"  {len(pages)} calls of the system, {len(pages - alone)} of them only in methods of several;"
+                    f" {counted(found)}, by devices:")
+    yield from (f"{device}: {counted(parts)}" for device, parts in devices)
 
 
 def premises(programs):
@@ -292,7 +407,7 @@ def excuses(programs):
         reached = programs.reached(trait)
         said = [f"{', '.join(calls)} may be refused"] if calls else []
         said += [f"{words} (`{name}`)" for name, words in EXCUSES.items() if name in reached]
-        yield from textwrap.wrap(f"{trait}: {'; '.join(said) or 'nothing'}", 118, initial_indent="  ", subsequent_indent="    ")
+        yield from wrapped(f"{trait}: {'; '.join(said) or 'nothing'}", "  ", "    ")
 
 
 def uncovered_code(programs):
@@ -305,7 +420,7 @@ def uncovered_code(programs):
             lines.setdefault(crate, {})[file.removeprefix("src/")] = count
     for crate, files in lines.items():
         text = f"{crate} {sum(files.values()):,}: " + ", ".join(f"{file} {count}" for file, count in files.items())
-        yield from textwrap.wrap(text, 118, initial_indent="  ", subsequent_indent="    ")
+        yield from wrapped(text, "  ", "    ")
     yield f"  {sum(sum(files.values()) for files in lines.values()):,} lines in all, of {of_all:,} of functions"
 
 

@@ -125,7 +125,7 @@ pub trait MailFiles {
     /// A hasher of its own. Random, since the names of files may come from ids that a server chose.
     fn hasher(&self) -> io::Result<RandomState>;
 
-    /// Opens both folders, and looks at them.
+    /// A look at both folders: clock_gettime(2), and of each open(2), and stat(2) of what was opened.
     fn look(&mut self) -> io::Result<FoldersLook>
         ensures stays { Stays path looked self.old self.new }
         ensures looks { sound self.new → sound self.old
@@ -136,7 +136,8 @@ pub trait MailFiles {
         ensures stays { Stays path looked self.old self.new }
         ensures kept { sound self.new → sound self.old };
 
-    /// The files of both folders at one moment, in order.
+    /// The files of both folders at one moment, in order, by stat(2), open(2) and getdents(2) until the time of change
+    /// of each is the same before and after, with clock_gettime(2) and clock_nanosleep(2).
     fn list(&self) -> io::Result<Vec<PlacedFile>>
         ensures told { IfOk result (λ files. told self.now files.items) }
         ensures in_order { IfOk result (λ files. AreInOrder files.items) };
@@ -145,25 +146,25 @@ pub trait MailFiles {
     fn way(&self, folder: Folder, name: &str) -> io::Result<FileWay>
         ensures { IfOk result (λ way. (way.folder ≡ folder) × (string_bytes way.name ≡ name.now)) };
 
-    /// What bears a name. NotFound if nothing does.
+    /// lstat(2) of what bears a name. NotFound if nothing does.
     fn look_up(&self, file: &FileWay) -> io::Result<Found>
         ensures { LooksUp (found self.now file.now) result };
 
-    /// Opens what bears a name, under which a regular file was found.
+    /// open(2) of what bears a name, under which a regular file was found; again if the file system is read-only.
     fn open(&self, file: &FileWay) -> io::Result<Self::File>
         requires { (number : FileNumber) × FoundRegular (found self.now) file.now number }
         ensures { IfOk result (gave self.now file.now) };
 
-    /// What was opened.
+    /// fstat(2) of what was opened.
     fn stat_opened(&self, file: &Self::File) -> io::Result<Found>
         ensures { IfOk result (TellsHandle (gave self.now) (opened self.now) file.now) };
 
-    /// Goes past so many octets of a file that was opened.
+    /// lseek(2): past so many octets.
     fn skip(&self, file: &mut Self::File, count: u64) -> io::Result<()>
         ensures { sound self.now → OnOk result
             (Skips (Self.File.remaining file.old) count (Self.File.remaining file.new)) };
 
-    /// Removes a name, under which a regular file was found since the last removal.
+    /// unlink(2) of a name, under which a regular file was found since the last removal.
     fn unlink(&mut self, file: &FileWay) -> io::Result<()>
         requires { (number : FileNumber) × FoundRegular (found self.old) file.now number }
         ensures removed { (number : FileNumber) → FoundRegular (found self.old) file.now number
@@ -176,14 +177,14 @@ pub trait MailFiles {
     /// The path of the file or folder for which a call was refused since the last time it was asked for.
     fn take_refused(&self) -> Option<String>;
 
-    // readdir(3): all names of a folder that nobody changes meanwhile.
+    // getdents(2): all names of a folder that nobody changes meanwhile.
     ghost lists: { (d : Self) (all : List PlacedFile) → sound d → told d all → TellsEach (files d) all };
 
     // lstat(2), of a name that a listing may tell.
     ghost finds: { (d : Self) (way : FileWay) (what : Option Found) → sound d → found d way what
         → Bears (files d) way what };
 
-    // open(2), read(2), inode(7): a device and a number are one file, which has the same octets under each name.
+    // read(2), inode(7): a device and a number are one file, which has the same octets under each name.
     ghost reads: { (d : Self) (way : FileWay) (number : FileNumber) (file : Self.File) → sound d
         → opened d way number file → HasOctetsOf Self.File.remaining (files d) number file };
 
@@ -192,12 +193,12 @@ pub trait MailFiles {
         → looked d look was → Contains (files d) file → Contains was before → file_place file ≡ file_place before
         → file.stamp ≡ before.stamp → file.content ≡ before.content };
 
-    // inode(7): a folder gets another time of change with each change of its names, once it has rested. A change within
-    // a file gives it none: by the premise there is no such change.
+    // stat(2) of a folder, inode(7): it gets another time of change with each change of its names, once it has rested.
+    // A change within a file gives it none: by the premise there is no such change.
     ghost rests: { (d : Self) (earlier later : FoldersLook) (was now : List DropFile) → sound d → looked d earlier was
         → looked d later now → IsUnchanged earlier later → was ≡ now };
 
-    // unlink(2).
+    // unlink(2): nothing bears a name that was removed.
     ghost unlinks: { (d : Self) (way : FileWay) (number : FileNumber) → sound d → removed d way number
         → Bears (files d) way None };
 
