@@ -5,8 +5,8 @@ use Rattle.folder_drop.specs.declared.{
   listed_file.ListedFile.ListedFile,
 }
 
--- one of these files has the folder and the name of the one that was found, this length and time of change, and this
--- size
+-- one of these files has the folder and the name of the one that was found, this length and time of modification, and
+-- this size
 pub record WasCounted (files : List ListedFile) (found : PlacedFile) (stamp : Stamp) (counted : ℕ) : Type 0 where
   pub file : ListedFile
   pub listed : Contains files file

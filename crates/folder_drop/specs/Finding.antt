@@ -35,7 +35,8 @@ pub record IsFoundNow (found : FileWay → Option Found → Type 0) (place : Fol
 abbrev pub IsGone : (List PlacedFile → Type 0) → SeenFiles → List ℕ → Type 0
 IsGone listed seen name = listed (those_seen seen.files) × NoneHasBase name (those_seen seen.files)
 
--- the length and time of change of a regular file that was found; or what was found isn't one, or nothing has the base
+-- the length and time of modification of a regular file that was found; or what was found isn't one, or nothing has the
+-- base
 abbrev pub TellsStamp : (FileWay → Option Found → Type 0) → (List PlacedFile → Type 0) → SeenFiles → Folder × List ℕ
     → Option Stamp → Type 0
 TellsStamp found listed seen place (Some stamp) = (now : FileWay × Found) × IsFoundNow found place now

@@ -87,8 +87,8 @@ pub record MayBeListed {Z S : Type 0} (seen : HashSet (Vec ℕ Z) S) (files : Li
   pub is_key : IsIdKey key (id_of name)
   pub unseen : IsUnseen seen key
 
--- a regular file that was found had this length and time of change, and has this size: as it was counted before, or as
--- it was read
+-- a regular file that was found had this length and time of modification, and has this size: as it was counted before,
+-- or as it was read
 pub record IsMeasured {File : Type 0} (remaining : File → Option (List ℕ)) (found : FileWay → Option Found → Type 0)
     (opened : FileWay → FileNumber → File → Type 0) (told : List PlacedFile → Type 0) (earlier : List ListedFile)
     (file : PlacedFile) (measured : Stamp × ℕ) : Type 0 where

@@ -38,12 +38,12 @@ IsInPlace file = file.is_in_place ≡ true
 abbrev pub NoneIsInPlace : List Namesake → Type 0
 NoneIsInPlace files = All (λ (file : Namesake). file.is_in_place ≡ false) files
 
--- the file has this length and time of change
+-- the file has this length and time of modification
 abbrev pub HasStamp : Stamp → Namesake → Type 0
 HasStamp stamp file = file.stamp ≡ stamp
 
 -- the file at this place is the listed one: it is where the message was listed, or none is, and it has the length and
--- time of change that the listed one had
+-- time of modification that the listed one had
 abbrev pub IsListedAt : List Namesake → Stamp → ℕ → Type 0
 IsListedAt files stamp i = (i < length files)
     × (HoldsAt IsInPlace files i ⊎ (NoneIsInPlace files × HoldsAt (HasStamp stamp) files i))

@@ -173,8 +173,8 @@ fn size<D: MailFiles>(
     }
 }
 
-/// The size of a file of this length and time of change as a message: the known one, or else the file is read. None if
-/// it is above the limit, or if the file is gone.
+/// The size of a file of this length and time of modification as a message: the known one, or else the file is read.
+/// None if it is above the limit, or if the file is gone.
 pub fn size_within<D: MailFiles>(
     files: &D,
     seen: &mut SeenFiles,

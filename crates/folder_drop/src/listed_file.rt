@@ -18,8 +18,8 @@ use std::time::{Duration, UNIX_EPOCH};
 /// How many octets of a file are read at a time.
 pub const PIECE: usize = 65_536;
 
-/// The place of a listed message's file, its length and time of change when its size was counted, and
-/// that size, with each line's end counted as two octets.
+/// The place of a listed message's file, its length and time of modification when its size was counted, and that size,
+/// with each line's end counted as two octets.
 #[derive(Drop)]
 pub struct ListedFile {
     pub folder: Folder,

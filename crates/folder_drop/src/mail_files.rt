@@ -112,8 +112,10 @@ pub trait MailFiles {
     // `close` it is what the next look will find.
     ghost files: { Self → List DropFile };
 
-    // The premise: the system does what its calls promise, with /proc mounted. From a look to the next `close` nobody
-    // but this server changes the Maildir, and at no time does anybody change a file in place.
+    // The premise: the system does what its calls promise, with /proc mounted, `new` and `cur` are two folders, and a
+    // device and a number are those of one file. From a look to the next `close` nobody but this server changes the
+    // Maildir. At no time does anybody change a file in place, or give a file the name, length and time of modification
+    // that another one had.
     ghost sound: { Self → Type 0 };
 
     // It looked at the folders so when these files were there.
@@ -188,7 +190,7 @@ pub trait MailFiles {
     ghost reads: { (d : Self) (way : FileWay) (number : FileNumber) (file : Self.File) → sound d
         → opened d way number file → HasOctetsOf Self.File.remaining (files d) number file };
 
-    // A file that has the name, length and time of change that one had at a look has the octets of that one.
+    // A file that has the name, length and time of modification that one had at a look has the octets of that one.
     ghost keeps: { (d : Self) (look : FoldersLook) (was : List DropFile) (file before : DropFile) → sound d
         → looked d look was → Contains (files d) file → Contains was before → file_place file ≡ file_place before
         → file.stamp ≡ before.stamp → file.content ≡ before.content };

@@ -56,7 +56,7 @@ fn place_listed(files: &[Namesake]) -> Option<usize>
     None
 }
 
-/// The place of a file of this length and time of change.
+/// The place of a file of this length and time of modification.
 fn place_stamped(files: &[Namesake], stamp: Stamp) -> Option<usize>
     ensures found { IfSome result (λ i. (i < length files.now) × HoldsAt (HasStamp stamp) files.now i) }
     ensures none { IfNone result (All (λ (file : Namesake). file.stamp ≢ stamp) files.now) }
@@ -69,8 +69,8 @@ fn place_stamped(files: &[Namesake], stamp: Stamp) -> Option<usize>
     None
 }
 
-/// The place of the listed file: the one that is where it was listed, or else one with the length and time
-/// of change that the listed one had, since renaming a file keeps both.
+/// The place of the listed file: the one that is where it was listed, or else one with the length and time of
+/// modification that the listed one had, since renaming a file keeps both.
 pub fn listed_place(files: &[Namesake], stamp: Stamp) -> Option<usize>
     ensures found { IfSome result (IsListedAt files.now stamp) }
     ensures none { IfNone result (NoneIsListed files.now stamp) }

@@ -18,7 +18,7 @@ use pop3_server::MAX_SIZE;
 use std::hash::RandomState;
 use std::io;
 
-/// The length and time of change of a file that was found, and its size as a message. None if it is no message.
+/// The length and time of modification of a file that was found, and its size as a message. None if it is no message.
 fn measure<D: MailFiles>(
     files: &D,
     seen: &mut SeenFiles,
