@@ -1,61 +1,139 @@
--- A Maildir in memory that has one file, or none.
+-- A Maildir in memory: what is there, and what others do.
 use Rattle.std.{
-  proofs.{Common.{ap, subst, sym, ◌∙◌}, Math.Nat.{le_of_suc-le-suc, le_trans, not-suc-le-zero}},
-  specs.{List.Contains, Prelude.{◌≡◌, ◌==◌, zero, suc, Bool, true, false, List, [], ◌∷◌}},
+  proofs.{Common.{ap, subst, sym, ◌∙◌}},
+  specs.{
+    Borrow.Bor,
+    IoError.error_kind,
+    List.{Contains, Sorted.IsPermutation, filter},
+    Prelude.{◌≡◌, ◌≢◌, ◌⊎◌, ◌≤◌, ◌∷◌, ◌++◌, ℕ, Bool, false, true, List, [], Result, Ok, Err, None, All, length, map, pos, slice_index_or},
+    declared.io.{ErrorKind.{ErrorKind, TheVariants.{NotFound, OutOfMemory}}, Error.Error},
+  },
 }
 use Rattle.folder_drop.specs.{
-  declared.{folders_look.FoldersLook.FoldersLook, memory_files.MemoryFile.MemoryFile},
+  declared.{
+    folders_look.FoldersLook.FoldersLook,
+    mail_files.{FileWay.FileWay, Found.Found},
+    maildir_names.Folder.Folder,
+    memory_files.{MemoryFile.MemoryFile, MemoryFiles.MemoryFiles, MemoryHandle.MemoryHandle},
+    memory_names.{MemoryName.MemoryName, MemoryNames.MemoryNames},
+  },
   FoldersLook.IsUnchanged,
-  MailFiles.{AreMailFiles, DropFile},
+  MailFiles.{AreMailFiles, Bears, DropFile, HasFile, file_place},
+  MemoryNames.{RefusesName, is_elsewhere, place_of},
 }
 
-abbrev pub memory_file_of : MemoryFile → DropFile
-memory_file_of file = record {
-  folder = file.folder;
-  name = file.name.now;
-  is_regular = true;
-  number = file.number;
-  stamp = file.stamp;
-  content = file.content.now;
+-- the octets of a file
+abbrev pub octets_at : List MemoryFile → ℕ → List ℕ
+octets_at files file = slice_index_or (map (λ (f : MemoryFile). f.content.now) files) file []
+
+-- what a look at a file tells
+abbrev pub found_at : List MemoryFile → ℕ → Found
+found_at files file = record {
+  is_regular = slice_index_or (map (λ (f : MemoryFile). f.is_regular) files) file false;
+  number = record { device = 0; inode = file };
+  stamp = record { length = length (octets_at files file); seconds = file; nanoseconds = 0 };
 }
 
--- the file, if it is there
-abbrev pub memory_files_in : MemoryFile → Bool → List DropFile
-memory_files_in file true = memory_file_of file ∷ []
-memory_files_in file false = []
-
--- these files were there at a look: in the first second after 1970 the file came, and in the next one it was removed
-abbrev pub HasLooked : MemoryFile → FoldersLook → List DropFile → Type 0
-HasLooked file look was = was ≡ memory_files_in file (look.new.seconds == 1)
-
-one_in : (x a : DropFile) → Contains (x ∷ []) a → x ≡ a
-one_in x a (zero, within, is) = is
-one_in x a (suc k, within, is) = absurd (not-suc-le-zero (le_of_suc-le-suc within))
-
--- only one file is ever there
-same_content : (file : MemoryFile) (here then : Bool) (a b : DropFile) → Contains (memory_files_in file here) a
-    → Contains (memory_files_in file then) b → a.content ≡ b.content
-same_content file false then a b one other = absurd (not-suc-le-zero one.1)
-same_content file true false a b one other = absurd (not-suc-le-zero other.1)
-same_content file true true a b one other = ap (λ (f : DropFile). f.content)
-    (sym (one_in (memory_file_of file) a one) ∙ one_in (memory_file_of file) b other)
-
-pub keeps_content : (file : MemoryFile) (is_there : Bool) (look : FoldersLook) (was : List DropFile) (a b : DropFile)
-    → HasLooked file look was → Contains (memory_files_in file is_there) a → Contains was b → a.content ≡ b.content
-keeps_content file is_there look was a b looked there had = same_content file is_there (look.new.seconds == 1) a b there
-    (subst (λ (files : List DropFile). Contains files b) looked had)
-
-pub rests_so : (file : MemoryFile) (earlier later : FoldersLook) (was now : List DropFile) → HasLooked file earlier was
-    → HasLooked file later now → IsUnchanged earlier later → was ≡ now
-rests_so file earlier later was now one other same =
-    one ∙ ap (λ t. memory_files_in file (t.seconds == 1)) (sym same.new_same) ∙ sym other
-
-pub keeps_whole : (file : MemoryFile) (is_there : Bool) → AreMailFiles (memory_files_in file is_there)
-keeps_whole file false = record {
-  distinct = λ i j d lt within. absurd (not-suc-le-zero within);
-  one = λ a b one other number. same_content file false false a b one other;
+-- what has a name
+abbrev pub file_of : List MemoryFile → MemoryName → DropFile
+file_of files one = record {
+  folder = one.folder;
+  name = one.name.now;
+  is_regular = (found_at files one.file).is_regular;
+  number = (found_at files one.file).number;
+  stamp = (found_at files one.file).stamp;
+  content = octets_at files one.file;
 }
-keeps_whole file true = record {
-  distinct = λ i j d lt within. absurd (not-suc-le-zero (le_trans lt (le_of_suc-le-suc within)));
-  one = λ a b one other number. same_content file true true a b one other;
+
+-- what is there now
+abbrev pub mail_files : MemoryFiles → List DropFile
+mail_files d = map (file_of d.files.items) d.names.items.items
+
+-- the names after so many changes
+abbrev pub names_after : ℕ → MemoryFiles → List MemoryName
+names_after changes d = slice_index_or (map (λ (names : MemoryNames). names.items.items) (d.past.items ++ d.names ∷ [])) changes []
+
+-- these files were there at a look, whose time of change shows after how many changes it was
+abbrev pub HasLooked : MemoryFiles → FoldersLook → List DropFile → Type 0
+HasLooked d look was = (changes : ℕ) × (changes ≤ length d.past.items) × (look.new.nanoseconds ≡ pos changes)
+    × (was ≡ map (file_of d.files.items) (names_after changes d))
+
+-- what was known of looks is known still
+abbrev pub StaysLooked : MemoryFiles → MemoryFiles → Type 0
+StaysLooked old new = (look : FoldersLook) (was : List DropFile) → HasLooked old look was → HasLooked new look was
+
+-- a file that was opened and not read yet
+abbrev pub IsHandle : MemoryFiles → MemoryHandle → Type 0
+IsHandle d handle = (file : ℕ) × (handle.found ≡ found_at d.files.items file)
+    × (handle.rest.now ≡ octets_at d.files.items file)
+
+-- what has a name was opened; or nothing has it
+abbrev pub Finds : MemoryFiles → FileWay → Result MemoryHandle Error → Type 0
+Finds d way (Ok handle) = HasFile (mail_files d) way handle.found × IsHandle d handle
+Finds d way (Err error) = (error_kind error ≡ NotFound) × Bears (mail_files d) way None
+
+-- ---- what others do
+
+abbrev pub place_in : Folder × Bor (List ℕ) → Folder × List ℕ
+place_in place = (place.0, place.1.now)
+
+-- a file with these octets, of a number that none had yet
+abbrev pub file_put : MemoryFiles → Folder × List ℕ → Bool → List ℕ → DropFile
+file_put d place is_regular content = record {
+  folder = place.0;
+  name = place.1;
+  is_regular = is_regular;
+  number = record { device = 0; inode = length d.files.items };
+  stamp = record { length = length content; seconds = length d.files.items; nanoseconds = 0 };
+  content = content;
 }
+
+-- the same file under another name
+abbrev pub named : Folder × List ℕ → DropFile → DropFile
+named place file = record file { folder = place.0; name = place.1 }
+
+-- what has other names
+abbrev pub elsewhere : Folder × List ℕ → List DropFile → List DropFile
+elsewhere place = filter (λ (file : DropFile). is_elsewhere place (file_place file))
+
+-- nothing has the name
+abbrev pub LacksName : Folder × List ℕ → List DropFile → ErrorKind → Type 0
+LacksName place files kind = (kind ≡ NotFound) × All (λ file. file_place file ≢ place) files
+
+-- a file came
+abbrev pub Puts : DropFile → List DropFile → Result Unit Error → List DropFile → Type 0
+Puts file old (Ok done) new = IsPermutation (file ∷ old) new
+Puts file old (Err error) new = (new ≡ old) × RefusesName (map file_place old) (file_place file) (error_kind error)
+
+-- a file got a second name
+abbrev pub Links : Folder × List ℕ → Folder × List ℕ → List DropFile → Result Unit Error → List DropFile → Type 0
+Links from to old (Ok done) new = (file : DropFile) × Contains old file × (file_place file ≡ from)
+    × IsPermutation (named to file ∷ old) new
+Links from to old (Err error) new = (new ≡ old)
+    × (LacksName from old (error_kind error) ⊎ RefusesName (map file_place old) to (error_kind error))
+
+-- a file got another name
+abbrev pub Renames : Folder × List ℕ → Folder × List ℕ → List DropFile → Result Unit Error → List DropFile → Type 0
+Renames from to old (Ok done) new = (file : DropFile) × Contains old file × (file_place file ≡ from)
+    × IsPermutation (named to file ∷ elsewhere from old) new
+Renames from to old (Err error) new = (new ≡ old)
+    × (LacksName from old (error_kind error) ⊎ RefusesName (map file_place old) to (error_kind error))
+
+-- a name was taken away
+abbrev pub Takes : Folder × List ℕ → List DropFile → Result Unit Error → List DropFile → Type 0
+Takes from old (Ok done) new = Contains (map file_place old) from × (new ≡ elsewhere from old)
+Takes from old (Err error) new = (new ≡ old)
+    × (LacksName from old (error_kind error) ⊎ (error_kind error ≡ OutOfMemory))
+
+-- ---- the laws
+pub keeps_content : (d : MemoryFiles) (look : FoldersLook) (was : List DropFile) (file before : DropFile)
+    → HasLooked d look was → Contains (mail_files d) file → Contains was before → file.stamp ≡ before.stamp
+    → file.content ≡ before.content
+keeps_content d look was file before looked there had same = ?
+
+pub rests_so : (d : MemoryFiles) (earlier later : FoldersLook) (was now : List DropFile) → HasLooked d earlier was
+    → HasLooked d later now → IsUnchanged earlier later → was ≡ now
+rests_so d earlier later was now one other same = ?
+
+pub keeps_whole : (d : MemoryFiles) → AreMailFiles (mail_files d)
+keeps_whole d = ?

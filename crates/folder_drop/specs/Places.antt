@@ -35,10 +35,14 @@ rank New = 1
 abbrev pub named_in : {Z : Type 0} → Folder → List (String Z) → List (Folder × List ℕ)
 named_in folder names = map (λ name. (folder, string_bytes name)) names
 
--- by the bytes of their bases, then by their folders, then by the bytes of their whole names
+-- places: by the bytes of their bases, then by their folders, then by the bytes of their whole names
+abbrev pub places_cmp : Folder × List ℕ → Folder × List ℕ → Ordering
+places_cmp = then_cmp (on (λ (place : Folder × List ℕ). base place.1) (slice_cmp nat_cmp))
+    (then_cmp (on (λ (place : Folder × List ℕ). rank place.0) nat_cmp)
+    (on (λ (place : Folder × List ℕ). place.1) (slice_cmp nat_cmp)))
+
 abbrev pub place_cmp : PlacedFile → PlacedFile → Ordering
-place_cmp = then_cmp (on base_of_file (slice_cmp nat_cmp))
-    (then_cmp (on (λ (file : PlacedFile). rank file.folder) nat_cmp) (on name_of_file (slice_cmp nat_cmp)))
+place_cmp = on folder_and_name places_cmp
 
 abbrev pub AreInOrder : List PlacedFile → Type 0
 AreInOrder = IsSorted place_cmp

@@ -10,12 +10,16 @@ mod maildir_drop;
 mod maildir_folders;
 mod maildir_names;
 mod memory_files;
+mod memory_names;
 mod open_folder;
 mod removal;
 mod same_octets;
 mod seen_files;
 
-pub use mail_files::MailFiles;
+pub use folders_look::FoldersLook;
+pub use mail_files::{FileNumber, FileWay, Found, MailFiles};
 pub use maildir_drop::{FilesDrop, MaildirDrop};
+pub use maildir_folders::MaildirFolders;
+pub use maildir_names::{Folder, PlacedFile, Stamp};
 pub use memory_files::MemoryFiles;
 pub use removal::TwoMessages;

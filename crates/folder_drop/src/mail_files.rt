@@ -1,4 +1,6 @@
 //! What a maildrop asks of the folders of a Maildir.
+ghost use Rattle.std.specs.Prelude.{◌≡◌, true, string_bytes};
+ghost use Rattle.folder_drop.specs.MaildirNames.{is_listable_name};
 
 use crate::folders_look::FoldersLook;
 use crate::listed_file::stamp_of;
@@ -35,7 +37,7 @@ pub struct Found {
 }
 
 impl Found {
-    ghost use Rattle.std.specs.{Fs.{file_type, metadata_len, IsFile}, Prelude.{◌≡◌, ◌↔◌, true, IsTrue, OnOk}};
+    ghost use Rattle.std.specs.{Fs.{file_type, metadata_len, IsFile}, Prelude.{◌↔◌, IsTrue, OnOk}};
 
     /// What the system reports this of.
     pub fn of(metadata: &Metadata) -> Found
@@ -60,7 +62,7 @@ impl Found {
     }
 }
 
-/// A name in a folder.
+/// A name in a folder, of those that a listing may tell.
 #[derive(Drop)]
 pub struct FileWay {
     pub folder: Folder,
@@ -69,12 +71,13 @@ pub struct FileWay {
     pub path: String,
     /// A path that leads to it through the open folder.
     pub way: String,
+    ghost listable: { is_listable_name (string_bytes name) ≡ true },
 }
 
 /// The files in `new` and `cur` of a Maildir. Others put files there, move them and take them away at any moment, so
 /// each answer is only of the moment of its call. The laws say what it tells while nobody does.
 pub trait MailFiles {
-    ghost use Rattle.std.specs.Prelude.{◌≡◌, ℕ, List, Contains, Option, None, IfOk, OnOk, string_bytes};
+    ghost use Rattle.std.specs.Prelude.{ℕ, List, Contains, Option, None, IfOk, OnOk};
     ghost use Rattle.folder_drop.specs.{
       declared.{
         folders_look.FoldersLook.FoldersLook,

@@ -1,11 +1,12 @@
 //! The folders and files of a Maildir, and the unique-id for a file's name.
 ghost use Rattle.std.specs.{
   Duration.as_nanos,
-  Prelude.{◌≡◌, ◌/◌, ◌%◌, true, length, IsTrue, IfOk, string_bytes},
+  IoError.error_kind,
+  Prelude.{◌≡◌, ◌/◌, ◌%◌, true, false, length, IsTrue, IfErr, IfOk, OnOk, string_bytes},
   List.list_all,
 };
 ghost use Rattle.mail_terms.specs.{MaildirName.base as base_of, UniqueId.{is_legal_id, is_id_byte}};
-ghost use Rattle.folder_drop.specs.MaildirNames.{folder_name, id_of, IsIdKey};
+ghost use Rattle.folder_drop.specs.MaildirNames.{folder_name, id_of, is_listable_name, IsIdKey};
 ghost use Rattle.hex.specs.Hex.{encode_lower};
 ghost use Rattle.sha2.specs.Sha256.{sha256};
 
@@ -14,6 +15,7 @@ use pop3_wire::is_legal_id;
 use sha2::{Digest, Sha256};
 use std::alloc::{AllocError, Global};
 use std::cmp::Ordering;
+use std::io::{self, ErrorKind};
 use std::time::Duration;
 
 /// How many characters a digest has in hexadecimal.
@@ -36,6 +38,25 @@ impl Folder {
             Folder::New => "new",
         }
     }
+}
+
+/// Whether a listing may tell this name: it isn't hidden, and leads into no other folder.
+fn is_listable_name(name: &[u8]) -> bool
+    ensures { result ≡ is_listable_name name.now }
+{
+    !name.is_empty() && !name.starts_with(b".") && !name.contains(&b'/')
+}
+
+/// InvalidInput for a name that no listing tells.
+pub fn check_name(name: &str) -> io::Result<()>
+    ensures ok { OnOk result (is_listable_name name.now ≡ true) }
+    ensures err { IfErr result (λ error. (error_kind error ≡ ErrorKind.InvalidInput)
+        × (is_listable_name name.now ≡ false)) }
+{
+    if is_listable_name(name.as_bytes()) {
+        return Ok(());
+    }
+    Err(io::Error::from(ErrorKind::InvalidInput))
 }
 
 /// How long a file is, and when it was last changed, in seconds and nanoseconds since 1970.

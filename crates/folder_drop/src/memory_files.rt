@@ -1,143 +1,256 @@
-//! A Maildir in memory that has one file, or none: all that `MailFiles` says of the calls can hold of one system.
-ghost use Rattle.std.specs.Prelude.{◌≡◌, ◌↔◌, ◌==◌, ◌∷◌, [], None, Some, IfNone, IfSome, IsTrue, length, true};
-ghost use Rattle.folder_drop.specs.{
-  declared.{mail_files.FileNumber.FileNumber, maildir_names.Folder.TheVariants.New},
-  MailFiles.{Bears, TellsEach, HasOctetsOf, file_place},
-  MemoryFiles.{HasLooked, keeps_content, keeps_whole, memory_file_of, memory_files_in, rests_so},
-  Places.IsWayTo,
-};
+//! A Maildir in memory: all that `MailFiles` says of the calls can hold of one system.
+ghost use Rattle.std.specs.Prelude.{◌≡◌, ◌++◌, ◌∷◌, ◌<◌, [], All, OnErr, OnOk, length};
+ghost use Rattle.folder_drop.specs.MemoryNames.{HaveFiles};
 
 use crate::folders_look::FoldersLook;
 use crate::mail_files::{FileNumber, FileWay, Found, MailFiles};
-use crate::maildir_names::{Folder, PlacedFile, Stamp};
+use crate::maildir_names::{Folder, PlacedFile, Stamp, check_name};
+use crate::memory_names::{MemoryName, MemoryNames};
 use folder_store::ChangeTime;
-use std::alloc::Global;
+use std::alloc::{AllocError, Global};
 use std::hash::RandomState;
-use std::io::{self, ErrorKind};
-use std::time::Duration;
+use std::io::{self, ErrorKind, Read};
+use std::mem;
 
-/// A regular file of a Maildir in memory.
+/// A regular file, or what is none.
 #[derive(Clone, Copy)]
 pub struct MemoryFile<'a> {
-    pub folder: Folder,
-    pub name: &'a str,
-    pub number: FileNumber,
-    pub stamp: Stamp,
+    pub is_regular: bool,
     pub content: &'a [u8],
 }
 
-impl<'a> MemoryFile<'a> {
-    /// Whether it has this name.
-    fn has(&self, way: &FileWay) -> bool
-        ensures { IsTrue result ↔ IsWayTo way.now (file_place (memory_file_of self.now)) }
-    {
-        way.folder == self.folder && way.name.as_str() == self.name
-    }
+/// A file that was opened.
+#[derive(Drop)]
+pub struct MemoryHandle<'a> {
+    /// What it is.
+    pub found: Found,
+    /// What is left to read.
+    pub rest: &'a [u8],
+}
 
-    /// What a look at it tells.
-    fn found(&self) -> Found
-        ensures { result ≡ record { is_regular = true; number = self.now.number; stamp = self.now.stamp } }
-    {
-        Found {
-            is_regular: true,
-            number: self.number,
-            stamp: self.stamp,
-        }
+impl<'a> Read for MemoryHandle<'a> {
+    ghost use Rattle.std.specs.Prelude.{Some};
+
+    ghost remaining = { λ handle. Some handle.rest.now };
+
+    fn read(&mut self, buf: &mut [u8]) -> io::Result<usize> {
+        self.rest.read(buf)
     }
 }
 
-/// When each look is, in seconds since 1970: so long after the changes that a listing stays valid.
-const NOW: u64 = 5;
-
-/// A Maildir in memory that has this file until it is removed.
+/// A Maildir in memory, in which several names may be those of one file. Texts and names are lent to it.
 #[derive(Drop)]
 pub struct MemoryFiles<'a> {
     pub alloc: Global,
     pub hasher: RandomState,
-    pub file: MemoryFile<'a>,
-    pub is_there: bool,
+    /// Each file that ever came: its number is its place here.
+    pub files: Vec<MemoryFile<'a>>,
+    /// The names now.
+    pub names: MemoryNames<'a>,
+    /// The names before each change.
+    pub past: Vec<MemoryNames<'a>>,
+    /// When the names were last changed.
+    pub changed: u64,
+    /// The time, in seconds since 1970.
+    pub clock: u64,
+    ghost known: { All (λ names. HaveFiles (length files.items) names.items.items) (past.items ++ names ∷ []) },
 }
 
 impl<'a> MemoryFiles<'a> {
-    /// A Maildir that has a new file of this name and these octets.
-    pub fn of(
-        alloc: Global,
-        hasher: RandomState,
-        name: &'a str,
-        content: &'a [u8],
-    ) -> MemoryFiles<'a>
-        ensures { memory_files_in result.file result.is_there ≡ record {
-          folder = New;
-          name = name.now;
-          is_regular = true;
-          number = record { device = 0; inode = 0 };
-          stamp = record { length = length content.now; seconds = 0; nanoseconds = 0 };
-          content = content.now;
-        } ∷ [] }
+    ghost use Rattle.std.specs.Prelude.{true, false};
+    ghost use Rattle.folder_drop.specs.MemoryFiles.{Finds, Links, Puts, Renames, StaysLooked, Takes};
+    ghost use Rattle.folder_drop.specs.MemoryFiles.{file_put, found_at, mail_files, place_in};
+
+    /// An empty Maildir.
+    pub fn new(alloc: Global, hasher: RandomState) -> MemoryFiles<'a>
+        ensures { mail_files result ≡ [] }
     {
-        let stamp = Stamp::at(content.len() as u64, Duration::ZERO);
         MemoryFiles {
             alloc,
             hasher,
-            file: MemoryFile {
-                folder: Folder::New,
-                name,
-                number: FileNumber {
-                    device: 0,
-                    inode: 0,
-                },
-                stamp,
-                content,
+            files: Vec::new(alloc),
+            names: MemoryNames::new(alloc),
+            past: Vec::new(alloc),
+            changed: 0,
+            clock: 0,
+        }
+    }
+
+    /// From now on these are the names.
+    fn change(&mut self, names: MemoryNames<'a>) -> Result<(), AllocError>
+        requires { HaveFiles (length self.old.files.items) names.entry.items.items }
+        ensures files { self.new.files ≡ self.old.files }
+        ensures ok { OnOk result (self.new.names ≡ names.entry) }
+        ensures past { OnOk result (self.new.past.items ≡ self.old.past.items ++ self.old.names ∷ []) }
+        ensures err { OnErr result ((self.new.names ≡ self.old.names) × (self.new.past.items ≡ self.old.past.items)) }
+    {
+        self.past.reserve(1)?;
+        let before = mem::replace(&mut self.names, names);
+        self.past.push(before).unwrap();
+        self.changed = self.clock;
+        Ok(())
+    }
+
+    /// A file comes under a name.
+    fn add(&mut self, folder: Folder, name: &'a str, file: MemoryFile<'a>) -> io::Result<()>
+        ensures puts { Puts (file_put self.old (folder, name.now) file.entry.is_regular file.entry.content.now)
+            (mail_files self.old) result (mail_files self.new) }
+        ensures stays { StaysLooked self.old self.new }
+    {
+        let one = MemoryName {
+            folder,
+            name,
+            file: self.files.len(),
+        };
+        let names = self.names.with(self.alloc, one)?;
+        self.files.push(file)?;
+        self.change(names)?;
+        Ok(())
+    }
+
+    /// A file with these octets comes under a name. AlreadyExists if something has it.
+    pub fn put(&mut self, folder: Folder, name: &'a str, content: &'a [u8]) -> io::Result<()>
+        ensures puts { Puts (file_put self.old (folder, name.now) true content.now)
+            (mail_files self.old) result (mail_files self.new) }
+        ensures stays { StaysLooked self.old self.new }
+    {
+        let file = MemoryFile {
+            is_regular: true,
+            content,
+        };
+        self.add(folder, name, file)
+    }
+
+    /// What is no regular file comes under a name. AlreadyExists if something has it.
+    pub fn put_other(&mut self, folder: Folder, name: &'a str) -> io::Result<()>
+        ensures puts { Puts (file_put self.old (folder, name.now) false [])
+            (mail_files self.old) result (mail_files self.new) }
+        ensures stays { StaysLooked self.old self.new }
+    {
+        let file = MemoryFile {
+            is_regular: false,
+            content: b"",
+        };
+        self.add(folder, name, file)
+    }
+
+    /// link(2): a file gets a second name. NotFound if nothing has the first, AlreadyExists if something has the second.
+    pub fn link(&mut self, from: (Folder, &str), to: (Folder, &'a str)) -> io::Result<()>
+        ensures links { Links (place_in from.entry) (place_in to.entry) (mail_files self.old) result (mail_files self.new) }
+        ensures stays { StaysLooked self.old self.new }
+    {
+        let MemoryName { file, .. } = self.names.find(from.0, from.1)?;
+        let one = MemoryName {
+            folder: to.0,
+            name: to.1,
+            file,
+        };
+        let names = self.names.with(self.alloc, one)?;
+        self.change(names)?;
+        Ok(())
+    }
+
+    /// rename(2), to a name that nothing has. NotFound if nothing has the first, AlreadyExists if something has the
+    /// second.
+    pub fn rename(&mut self, from: (Folder, &str), to: (Folder, &'a str)) -> io::Result<()>
+        ensures renames { Renames (place_in from.entry) (place_in to.entry) (mail_files self.old) result (mail_files self.new) }
+        ensures stays { StaysLooked self.old self.new }
+    {
+        let MemoryName { file, .. } = self.names.find(from.0, from.1)?;
+        if self.names.find(to.0, to.1).is_ok() {
+            return Err(io::Error::from(ErrorKind::AlreadyExists));
+        }
+        let one = MemoryName {
+            folder: to.0,
+            name: to.1,
+            file,
+        };
+        let others = self.names.without(self.alloc, from.0, from.1)?;
+        let names = others.with(self.alloc, one)?;
+        self.change(names)?;
+        Ok(())
+    }
+
+    /// A name is taken away. NotFound if nothing has it.
+    pub fn take(&mut self, from: (Folder, &str)) -> io::Result<()>
+        ensures takes { Takes (place_in from.entry) (mail_files self.old) result (mail_files self.new) }
+        ensures stays { StaysLooked self.old self.new }
+    {
+        self.names.find(from.0, from.1)?;
+        let others = self.names.without(self.alloc, from.0, from.1)?;
+        self.change(others)?;
+        Ok(())
+    }
+
+    /// So many seconds pass.
+    pub fn rest(&mut self, seconds: u64)
+        ensures same { mail_files self.new ≡ mail_files self.old }
+        ensures stays { StaysLooked self.old self.new }
+    {
+        self.clock = self.clock.saturating_add(seconds);
+    }
+
+    /// What a look at a file tells.
+    fn found(&self, file: usize) -> Found
+        requires { file < length self.now.files.items }
+        ensures { result ≡ found_at self.now.files.items file }
+    {
+        let MemoryFile {
+            is_regular,
+            content,
+        } = self.files[file];
+        Found {
+            is_regular,
+            number: FileNumber {
+                device: 0,
+                inode: file as u64,
             },
-            is_there: true,
+            stamp: Stamp {
+                length: content.len() as u64,
+                seconds: file as u64,
+                nanoseconds: 0,
+            },
         }
     }
 
-    /// When its folders were last changed.
-    fn changed(&self) -> ChangeTime
-        ensures { (result.seconds == 1) ≡ self.now.is_there }
+    /// What has a name, opened.
+    fn opened(&self, way: &FileWay) -> io::Result<MemoryHandle<'a>>
+        ensures { Finds self.now way.now result }
     {
-        ChangeTime {
-            seconds: if self.is_there { 1 } else { 2 },
-            nanoseconds: 0,
-        }
-    }
-
-    /// The file of this name, if there is one.
-    fn bearer(&self, way: &FileWay) -> Option<MemoryFile<'a>>
-        ensures some { IfSome result (λ file. (self.now.is_there ≡ true) × (file ≡ self.now.file)
-            × IsWayTo way.now (file_place (memory_file_of file))) }
-        ensures none { IfNone result (Bears (memory_files_in self.now.file self.now.is_there) way.now None) }
-    {
-        if self.is_there && self.file.has(way) {
-            return Some(self.file);
-        }
-        None
+        let MemoryName { file, .. } = self.names.find(way.folder, way.name.as_str())?;
+        Ok(MemoryHandle {
+            found: self.found(file),
+            rest: self.files[file].content,
+        })
     }
 }
 
 impl<'a> MailFiles for MemoryFiles<'a> {
-    type File = &'a [u8];
+    ghost use Rattle.std.specs.Prelude.{None, Some};
+    ghost use Rattle.folder_drop.specs.{
+      MailFiles.{Bears, HasOctetsOf, TellsEach},
+      MemoryFiles.{HasLooked, IsHandle, keeps_content, keeps_whole, mail_files, rests_so},
+    };
+
+    type File = MemoryHandle<'a>;
 
     ghost path = { λ _. [] };
 
-    ghost told = { λ d all. TellsEach (memory_files_in d.file d.is_there) all };
+    ghost told = { λ d all. TellsEach (mail_files d) all };
 
-    ghost found = { λ d way what. Bears (memory_files_in d.file d.is_there) way what };
+    ghost found = { λ d way what. Bears (mail_files d) way what };
 
-    ghost gave = { λ d way handle. (number : FileNumber) → HasOctetsOf (λ s. Some s.now)
-        (memory_files_in d.file d.is_there) number handle };
+    ghost gave = { λ d _ handle. IsHandle d handle };
 
-    ghost opened = { λ d way number handle. HasOctetsOf (λ s. Some s.now) (memory_files_in d.file d.is_there) number
-        handle };
+    ghost opened = { λ d _ number handle. HasOctetsOf (λ h. Some h.rest.now) (mail_files d) number handle };
 
-    ghost removed = { λ d way number. Bears (memory_files_in d.file d.is_there) way None };
+    ghost removed = { λ d way _. Bears (mail_files d) way None };
 
-    ghost files = { λ d. memory_files_in d.file d.is_there };
+    ghost files = { mail_files };
 
     ghost sound = { λ _. Unit {0} };
 
-    ghost looked = { λ d look was. HasLooked d.file look was };
+    ghost looked = { HasLooked };
 
     fn alloc(&self) -> Global {
         self.alloc
@@ -147,28 +260,31 @@ impl<'a> MailFiles for MemoryFiles<'a> {
         Ok(self.hasher)
     }
 
+    // The time of change shows how many changes were.
     fn look(&mut self) -> io::Result<FoldersLook> {
-        let changed = self.changed();
+        let Ok(changes) = i64::try_from(self.past.len()) else {
+            return Err(io::Error::from(ErrorKind::OutOfMemory));
+        };
+        let change = ChangeTime {
+            seconds: self.changed,
+            nanoseconds: changes,
+        };
         Ok(FoldersLook {
-            new: changed,
-            cur: changed,
-            at: NOW,
+            new: change,
+            cur: change,
+            at: self.clock,
         })
     }
 
     fn close(&mut self) {}
 
     fn list(&self) -> io::Result<Vec<PlacedFile>> {
-        let mut files = Vec::new(self.alloc);
-        if !self.is_there {
-            return Ok(files);
-        }
-        let name = String::from_str(self.alloc, self.file.name)?;
-        files.push(PlacedFile::of(self.file.folder, name))?;
+        let files = self.names.listed(self.alloc)?;
         Ok(files)
     }
 
     fn way(&self, folder: Folder, name: &str) -> io::Result<FileWay> {
+        check_name(name)?;
         Ok(FileWay {
             folder,
             name: String::from_str(self.alloc, name)?,
@@ -178,40 +294,29 @@ impl<'a> MailFiles for MemoryFiles<'a> {
     }
 
     fn look_up(&self, way: &FileWay) -> io::Result<Found> {
-        match self.bearer(way) {
-            Some(file) => Ok(file.found()),
-            None => Err(io::Error::from(ErrorKind::NotFound)),
-        }
+        let handle = self.opened(way)?;
+        Ok(handle.found)
     }
 
-    fn open(&self, way: &FileWay) -> io::Result<&'a [u8]> {
-        match self.bearer(way) {
-            Some(file) => Ok(file.content),
-            None => Err(io::Error::from(ErrorKind::NotFound)),
-        }
+    fn open(&self, way: &FileWay) -> io::Result<MemoryHandle<'a>> {
+        self.opened(way)
     }
 
-    fn stat_opened(&self, _handle: &&'a [u8]) -> io::Result<Found> {
-        Ok(self.file.found())
+    fn stat_opened(&self, handle: &MemoryHandle<'a>) -> io::Result<Found> {
+        Ok(handle.found)
     }
 
-    fn skip(&self, file: &mut &'a [u8], count: u64) -> io::Result<()> {
-        let all: &'a [u8] = *file;
-        let Some(rest) = all.get(count as usize..) else {
-            return Err(io::Error::from(ErrorKind::InvalidInput));
+    fn skip(&self, handle: &mut MemoryHandle<'a>, count: u64) -> io::Result<()> {
+        let rest: &'a [u8] = handle.rest;
+        handle.rest = match rest.get(count as usize..) {
+            Some(later) => later,
+            None => b"",
         };
-        *file = rest;
         Ok(())
     }
 
     fn unlink(&mut self, way: &FileWay) -> io::Result<()> {
-        match self.bearer(way) {
-            Some(_) => {
-                self.is_there = false;
-                Ok(())
-            }
-            None => Err(io::Error::from(ErrorKind::NotFound)),
-        }
+        self.take((way.folder, way.name.as_str()))
     }
 
     fn refuse(&self, _file: &FileWay, _words: &str) -> io::Error {
@@ -228,13 +333,12 @@ impl<'a> MailFiles for MemoryFiles<'a> {
 
     ghost reads = { λ _ _ _ _ _ opened. opened };
 
-    ghost keeps = { λ d look was file before _ looked there had _ _. keeps_content d.file d.is_there look was file
-        before looked there had };
+    ghost keeps = { λ d look was file before _ looked there had same stamp. keeps_content d look was file before looked
+        there had stamp };
 
-    ghost rests = { λ d earlier later was now _ one other same. rests_so d.file earlier later was now one other
-        same };
+    ghost rests = { λ d earlier later was now _ one other same. rests_so d earlier later was now one other same };
 
     ghost unlinks = { λ _ _ _ _ removed. removed };
 
-    ghost whole = { λ d _. keeps_whole d.file d.is_there };
+    ghost whole = { λ d _. keeps_whole d };
 }

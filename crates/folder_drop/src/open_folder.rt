@@ -6,7 +6,7 @@ ghost use Rattle.std.specs.{
 ghost use Rattle.folder_drop.specs.OpenFolder.{way_to, LeadsThrough};
 
 use crate::mail_files::{FileNumber, FileWay, Found};
-use crate::maildir_names::Folder;
+use crate::maildir_names::{Folder, check_name};
 use folder_store::ChangeTime;
 use std::alloc::{AllocError, Global};
 use std::fs;
@@ -121,6 +121,7 @@ impl<'a, R: Files + AllocGlobal> OpenFolder<'a, R> {
         ensures { IfOk result (LeadsThrough self.now.folder (string_bytes self.now.path)
             (string_bytes self.now.number_text) name.now) }
     {
+        check_name(name)?;
         let alloc = self.system.alloc();
         let (path, number) = (self.path.as_str(), self.number_text.as_str());
         Ok(FileWay {

@@ -1,6 +1,6 @@
 //! Tests of `folder_drop`.
 
-use folder_drop::{FilesDrop, MemoryFiles};
+use folder_drop::{FilesDrop, Folder, MemoryFiles};
 use pop3_server::{DropFault, Maildrop};
 use std::hash::RandomState;
 use std::process::Abort;
@@ -32,7 +32,8 @@ fn read_message(rt: &impl Abort, maildrop: &mut FilesDrop<MemoryFiles<'_>>) -> R
 #[test]
 fn a_maildir_in_memory_is_served(rt: HostRuntime) -> Result<(), Fail> {
     let hasher = RandomState::new(&rt)?;
-    let files = MemoryFiles::of(rt.alloc(), hasher, "a:2,S", b"one\ntwo\n");
+    let mut files = MemoryFiles::new(rt.alloc(), hasher);
+    files.put(Folder::New, "a:2,S", b"one\ntwo\n")?;
     let mut first = FilesDrop::over(files);
     read_message(&rt, &mut first)?;
     let mut maildrop = first.renewed();
