@@ -6,6 +6,7 @@ mod ListingLemmas
 mod MaildirLemmas
 mod MailLemmas
 mod MeasureLemmas
+mod MemoryFilesLemmas
 mod MemoryLemmas
 mod RemovalLemmas
 mod SameOctetsLemmas

@@ -21,17 +21,22 @@ use Rattle.std.{
     declared.cmp.Ordering.{Ordering, TheVariants.{Equal, Greater, Less}},
   },
 }
+use Rattle.mail_terms.specs.MaildirName.{base}
 use Rattle.folder_drop.specs.{
-  declared.maildir_names.PlacedFile.PlacedFile,
-  Places.{AreInOrder, base_of_file, name_of_file, place_cmp, rank},
+  declared.maildir_names.{Folder.Folder, PlacedFile.PlacedFile},
+  Places.{AreInOrder, base_of_file, folder_and_name, name_of_file, place_cmp, places_cmp, rank},
   SeenFiles.{NoneHasBase, HaveBase},
 }
 
 -- ---- the order of files
 
+pub places_total : IsTotalOrder places_cmp
+places_total = then_total (on_total (λ (place : Folder × List ℕ). base place.1) nat_list_cmp_total)
+    (then_total (on_total (λ (place : Folder × List ℕ). rank place.0) nat_cmp_total)
+    (on_total (λ (place : Folder × List ℕ). place.1) nat_list_cmp_total))
+
 pub place_total : IsTotalOrder place_cmp
-place_total = then_total (on_total base_of_file nat_list_cmp_total)
-    (then_total (on_total (λ (file : PlacedFile). rank file.folder) nat_cmp_total) (on_total name_of_file nat_list_cmp_total))
+place_total = on_total folder_and_name places_total
 
 then_less : (o p : Ordering) → o ≡ Less → ordering_then o p ≡ Less
 then_less Less p e = refl
@@ -62,7 +67,7 @@ less_at x y z ordered less Equal e = absurd (ordered (reversed x y Greater
     (nat_list_cmp_total.congr x z y e ∙ reversed y z Less less)))
 less_at x y z ordered less Greater e = absurd (ordered (nat_list_cmp_total.trans y z x less (reversed x z Greater e)))
 
-equal_from_cmp : (x z : List ℕ) → slice_cmp nat_cmp x z ≡ Equal → x ≡ z
+pub equal_from_cmp : (x z : List ℕ) → slice_cmp nat_cmp x z ≡ Equal → x ≡ z
 equal_from_cmp x z e = (bytes_eq-Decides x z).0 (sym (is_eq-slice_cmp x z) ∙ ap is_eq e)
 
 -- x isn't behind z, and not before it

@@ -7,6 +7,7 @@ pub mod MailFiles
 pub mod MaildirMail
 pub mod MaildirNames
 pub mod MemoryFiles
+pub mod MemoryLaws
 pub mod MemoryNames
 pub mod OpenFolder
 pub mod OpenText

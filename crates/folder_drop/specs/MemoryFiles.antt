@@ -1,13 +1,11 @@
 -- A Maildir in memory: what is there, and what others do.
-use Rattle.std.{
-  proofs.{Common.{ap, subst, sym, ◌∙◌}},
-  specs.{
-    Borrow.Bor,
-    IoError.error_kind,
-    List.{Contains, Sorted.IsPermutation, filter},
-    Prelude.{◌≡◌, ◌≢◌, ◌⊎◌, ◌≤◌, ◌∷◌, ◌++◌, ℕ, Bool, false, true, List, [], Result, Ok, Err, None, All, length, map, pos, slice_index_or},
-    declared.io.{ErrorKind.{ErrorKind, TheVariants.{NotFound, OutOfMemory}}, Error.Error},
-  },
+use Rattle.std.specs.{
+  Borrow.Bor,
+  IoError.error_kind,
+  List.{Contains, Sorted.IsPermutation, filter},
+  Prelude.{◌≡◌, ◌≢◌, ◌⊎◌, ◌≤◌, ◌∷◌, ◌++◌, ℕ, Bool, false, List, [], Result, Ok, Err, None, All, length, map, pos},
+  Prelude.slice_index_or,
+  declared.io.{ErrorKind.{ErrorKind, TheVariants.{NotFound, OutOfMemory}}, Error.Error},
 }
 use Rattle.folder_drop.specs.{
   declared.{
@@ -17,8 +15,7 @@ use Rattle.folder_drop.specs.{
     memory_files.{MemoryFile.MemoryFile, MemoryFiles.MemoryFiles, MemoryHandle.MemoryHandle},
     memory_names.{MemoryName.MemoryName, MemoryNames.MemoryNames},
   },
-  FoldersLook.IsUnchanged,
-  MailFiles.{AreMailFiles, Bears, DropFile, HasFile, file_place},
+  MailFiles.{Bears, DropFile, HasFile, file_place},
   MemoryNames.{RefusesName, is_elsewhere, place_of},
 }
 
@@ -124,16 +121,3 @@ abbrev pub Takes : Folder × List ℕ → List DropFile → Result Unit Error �
 Takes from old (Ok done) new = Contains (map file_place old) from × (new ≡ elsewhere from old)
 Takes from old (Err error) new = (new ≡ old)
     × (LacksName from old (error_kind error) ⊎ (error_kind error ≡ OutOfMemory))
-
--- ---- the laws
-pub keeps_content : (d : MemoryFiles) (look : FoldersLook) (was : List DropFile) (file before : DropFile)
-    → HasLooked d look was → Contains (mail_files d) file → Contains was before → file.stamp ≡ before.stamp
-    → file.content ≡ before.content
-keeps_content d look was file before looked there had same = ?
-
-pub rests_so : (d : MemoryFiles) (earlier later : FoldersLook) (was now : List DropFile) → HasLooked d earlier was
-    → HasLooked d later now → IsUnchanged earlier later → was ≡ now
-rests_so d earlier later was now one other same = ?
-
-pub keeps_whole : (d : MemoryFiles) → AreMailFiles (mail_files d)
-keeps_whole d = ?

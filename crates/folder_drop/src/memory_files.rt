@@ -78,7 +78,7 @@ impl<'a> MemoryFiles<'a> {
 
     /// From now on these are the names.
     fn change(&mut self, names: MemoryNames<'a>) -> Result<(), AllocError>
-        requires { HaveFiles (length self.old.files.items) names.entry.items.items }
+        requires { HaveFiles (length self.old.files.items) names.items.items }
         ensures files { self.new.files ≡ self.old.files }
         ensures ok { OnOk result (self.new.names ≡ names.entry) }
         ensures past { OnOk result (self.new.past.items ≡ self.old.past.items ++ self.old.names ∷ []) }
@@ -229,8 +229,9 @@ impl<'a> MailFiles for MemoryFiles<'a> {
     ghost use Rattle.std.specs.Prelude.{None, Some};
     ghost use Rattle.folder_drop.specs.{
       MailFiles.{Bears, HasOctetsOf, TellsEach},
-      MemoryFiles.{HasLooked, IsHandle, keeps_content, keeps_whole, mail_files, rests_so},
+      MemoryFiles.{HasLooked, IsHandle, mail_files},
     };
+    ghost use Rattle.folder_drop.specs.MemoryLaws.{keeps_content, keeps_whole, rests_so};
 
     type File = MemoryHandle<'a>;
 

@@ -2,7 +2,7 @@
 ghost use Rattle.std.specs.{
   IoError.error_kind,
   List.{HoldsAt, Sorted.{IsPartitionPoint, IsPermutation}, filter},
-  Prelude.{◌≡◌, ◌≢◌, ◌∷◌, [], All, Contains, IfErr, IfOk, map},
+  Prelude.{◌≡◌, ◌≢◌, ◌≤◌, ◌<◌, ◌∷◌, [], All, Contains, IfErr, IfOk, length, map},
   declared.{cmp.Ordering.TheVariants.{Greater, Less}, io.ErrorKind.TheVariants.NotFound},
 };
 ghost use Rattle.folder_drop.specs.{
@@ -64,13 +64,15 @@ impl<'a> MemoryNames<'a> {
 
     /// Where a name is, or how many come before it.
     fn search(&self, folder: Folder, name: &str) -> Result<usize, usize>
-        ensures found { IfOk result (HoldsAt (λ one. place_of one ≡ (folder, name.now)) self.now.items.items) }
-        ensures between { IfErr result (IsPartitionPoint (λ one. places_cmp (place_of one) (folder, name.now) ≡ Less)
-            (λ one. places_cmp (place_of one) (folder, name.now) ≡ Greater) self.now.items.items) }
+        ensures found { IfOk result (λ at. (at < length self.now.items.items)
+            × HoldsAt (λ one. place_of one ≡ (folder, name.now)) self.now.items.items at) }
+        ensures between { IfErr result (λ at. (at ≤ length self.now.items.items)
+            × IsPartitionPoint (λ one. places_cmp (place_of one) (folder, name.now) ≡ Less)
+            (λ one. places_cmp (place_of one) (folder, name.now) ≡ Greater) self.now.items.items at) }
     {
         self.items.binary_search_by(
             |one|
-                ensures { result ≡ places_cmp (place_of one.entry.now) (folder, name.now) }
+                ensures { result ≡ places_cmp (place_of one.entry.now) (folder, name.entry.now) }
             { one.cmp_place(folder, name) },
         )
     }
