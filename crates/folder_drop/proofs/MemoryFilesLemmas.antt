@@ -30,54 +30,14 @@ use Rattle.folder_drop.specs.{
   MailFiles.{AreMailFiles, Bears, DropFile, Has, HasFile, HasOctetsOf, LacksSome, file_place, is_in_place},
   MemoryFiles.{HasLooked, IsHandle, LacksName, StaysLooked, Takes, elsewhere, file_of, file_put, found_at, mail_files, named},
   MemoryFiles.{names_after, octets_at},
+  MemoryLaws.{content_by_number, places},
   MemoryNames.{HaveFiles, RefusesName, is_elsewhere, place_of},
   Places.IsWayTo,
 }
 use Rattle.folder_drop.proofs.{
   MailLemmas.{at_its_place, is_at_place},
-  MemoryLemmas.{distinct_places, map-filter},
+  MemoryLemmas.map-filter,
   TakenLemmas.{lacks_none, still_all},
-}
-
--- ---- what is there
-
-pub places : (d : MemoryFiles) → map file_place (mail_files d) ≡ map place_of d.names.items.items
-places d = map-map file_place (file_of d.files.items) d.names.items.items
-
-content_by_number : (files : List MemoryFile) (names : List MemoryName) (file : DropFile) → Contains (map (file_of files) names) file
-    → file.content ≡ octets_at files file.number.inode
-content_by_number files names file there =
-    let P : DropFile → Type 0 = λ f. f.content ≡ octets_at files f.number.inode in
-    All-contains P (map (file_of files) names) file (All-map P (file_of files) names (λ k d within. refl)) there
-
-content_by_stamp : (files : List MemoryFile) (names : List MemoryName) (file : DropFile) → Contains (map (file_of files) names) file
-    → file.content ≡ octets_at files file.stamp.seconds
-content_by_stamp files names file there =
-    let P : DropFile → Type 0 = λ f. f.content ≡ octets_at files f.stamp.seconds in
-    All-contains P (map (file_of files) names) file (All-map P (file_of files) names (λ k d within. refl)) there
-
--- ---- the laws
-
-pub keeps_content : (d : MemoryFiles) (look : FoldersLook) (was : List DropFile) (file before : DropFile)
-    → HasLooked d look was → Contains (mail_files d) file → Contains was before → file.stamp ≡ before.stamp
-    → file.content ≡ before.content
-keeps_content d look was file before looked there had same =
-    let files = d.files.items in
-    content_by_stamp files d.names.items.items file there ∙ ap (λ (s : Stamp). octets_at files s.seconds) same
-    ∙ sym (content_by_stamp files (names_after looked.0 d) before (subst (λ (l : List DropFile). Contains l before) looked.3 had))
-
-pub rests_so : (d : MemoryFiles) (earlier later : FoldersLook) (was now : List DropFile) → HasLooked d earlier was
-    → HasLooked d later now → IsUnchanged earlier later → was ≡ now
-rests_so d earlier later was now one other same =
-    let e : pos one.0 ≡ pos other.0 = sym one.2 ∙ sym (ap (λ t. t.nanoseconds) same.new_same) ∙ other.2 in
-    one.3 ∙ ap (λ (k : ℕ). map (file_of d.files.items) (names_after k d)) (ap unsigned_abs e) ∙ sym other.3
-
-pub keeps_whole : (d : MemoryFiles) → AreMailFiles (mail_files d)
-keeps_whole d = record {
-  distinct = subst AreDistinct (sym (places d)) (distinct_places (map place_of d.names.items.items) d.names.ascending);
-  one = λ a b there here same. let files = d.files.items in
-      content_by_number files d.names.items.items a there ∙ ap (λ (n : FileNumber). octets_at files n.inode) same
-      ∙ sym (content_by_number files d.names.items.items b here);
 }
 
 -- ---- files that come, and names that change
@@ -297,13 +257,18 @@ takes_named_one way old new (Ok done) takes = (
 )
 takes_named_one way old new (Err error) takes = subst (LacksSome (Has way) old) (sym takes.0) (lacks_none (Has way) old)
 
-pub named_gone : (way : FileWay) (old new : List DropFile) → new ≡ elsewhere (way.folder, string_bytes way.name) old → Bears new way None
+named_gone : (way : FileWay) (old new : List DropFile) → new ≡ elsewhere (way.folder, string_bytes way.name) old → Bears new way None
 named_gone way old new is = λ k d within leads.
     let place : Folder × List ℕ = (way.folder, string_bytes way.name) in
     let file = get_or new k d in
     let left = subst (All (λ (f : DropFile). is_elsewhere place (file_place f) ≡ true)) (sym is)
         (filter_passes (λ (f : DropFile). is_elsewhere place (file_place f)) old) k d within in
     not_true (is_in_place place file) (is_at_place place file leads.0 leads.1) left
+
+pub gone_if : (way : FileWay) (old new : List DropFile) (result : Result Unit Error)
+    → Takes (way.folder, string_bytes way.name) old result new → IfOk result (λ _. Bears new way None)
+gone_if way old new (Ok done) takes = named_gone way old new takes.1
+gone_if way old new (Err error) takes = tt
 
 pub still_none : (way : FileWay) (old new : List DropFile) → LacksSome (Has way) old new → (other : FileWay) → Bears old other None
     → Bears new other None

@@ -4,7 +4,6 @@ use Rattle.std.{
   proofs.Common.{ap, arith, cond, drop, get_or, length, map, refl, subst, sym, take, ⊎_elim},
   proofs.lemmas.{
     Bool.{cases_lt, false≢true},
-    Cmp.tied_itself,
     List.{get_or-map as get_or-map_any, length-map},
     List.Elements.{All-append, All-cons, All-drop, All-map, All-take},
     List.Kept.{AllPairs-cons, AllPairs-filter},
@@ -17,16 +16,16 @@ use Rattle.std.{
     declared.cmp.Ordering.{Ordering, TheVariants.{Equal, Greater, Less}},
   },
 }
-use Rattle.mail_terms.specs.{Distinct.AreDistinct, MaildirName.base}
 use Rattle.folder_drop.specs.{
   declared.{
     maildir_names.{Folder.{Folder, TheVariants.{Cur, New}}, PlacedFile.PlacedFile},
     memory_names.MemoryName.MemoryName,
   },
+  MemoryLaws.differ,
   MemoryNames.{AreAscendingPlaces, is_elsewhere, place_of},
-  Places.{AreInOrder, folder_and_name, place_cmp, places_cmp, rank},
+  Places.{AreInOrder, folder_and_name, place_cmp, places_cmp, places_total, rank},
 }
-use Rattle.folder_drop.proofs.{MailLemmas.same_pair, SeenLemmas.{equal_from_cmp, places_total}}
+use Rattle.folder_drop.proofs.{MailLemmas.same_pair, SeenLemmas.equal_from_cmp}
 
 -- ---- the order of places
 
@@ -46,11 +45,6 @@ equal_places a b e =
     let rest = (then_equal _ _ e).1 in
     let both = then_equal _ _ rest in
     same_pair a.0 b.0 a.1 b.1 (rank_equal a.0 b.0 both.0) (equal_from_cmp a.1 b.1 both.1)
-
-pub differ : (a b : Folder × List ℕ) → places_cmp a b ≡ Less → a ≢ b
-differ a b less same =
-    let tied : places_cmp a b ≡ Equal = subst (λ p. places_cmp a p ≡ Equal) same (tied_itself places_total a) in
-    false≢true (ap is_lt (sym tied ∙ less))
 
 pub less_turned : (a b : Folder × List ℕ) → places_cmp a b ≡ Greater → places_cmp b a ≡ Less
 less_turned a b e = places_total.antisymm b a ∙ ap ordering_reverse e
@@ -178,6 +172,3 @@ listed_in_order files places ascending same = λ k d from within.
         (get_or-map folder_and_name files (k + 1) d)
         (subst AreAscendingPlaces (sym same) ascending k (k + 1) (folder_and_name d) (omega arith) (omega (arith, long, within))) in
     ap is_lt (greater_turned a b less)
-
-pub distinct_places : (places : List (Folder × List ℕ)) → AreAscendingPlaces places → AreDistinct places
-distinct_places places ascending = λ i j d lt within. differ (get_or places i d) (get_or places j d) (ascending i j d lt within)

@@ -5,7 +5,7 @@ use Rattle.std.{
   proofs.Common.{arith, ⊎_elim},
   proofs.lemmas.{
     Bool.{cases_lt, false≢true},
-    Cmp.{nat_cmp_total, nat_list_cmp_total, on_total, then_total},
+    Cmp.{nat_list_cmp_total, on_total},
     List.{get_or-drop, get_or-take, length-drop, length-take-le, Elements.Contains-get_or, Sorted.{ranks_by, sorted_far}},
     Map.Text.is_eq-slice_cmp,
     Slice.Eq.bytes_eq-Decides,
@@ -21,19 +21,13 @@ use Rattle.std.{
     declared.cmp.Ordering.{Ordering, TheVariants.{Equal, Greater, Less}},
   },
 }
-use Rattle.mail_terms.specs.MaildirName.{base}
 use Rattle.folder_drop.specs.{
-  declared.maildir_names.{Folder.Folder, PlacedFile.PlacedFile},
-  Places.{AreInOrder, base_of_file, folder_and_name, name_of_file, place_cmp, places_cmp, rank},
+  declared.maildir_names.PlacedFile.PlacedFile,
+  Places.{AreInOrder, base_of_file, folder_and_name, name_of_file, place_cmp, places_total},
   SeenFiles.{NoneHasBase, HaveBase},
 }
 
 -- ---- the order of files
-
-pub places_total : IsTotalOrder places_cmp
-places_total = then_total (on_total (λ (place : Folder × List ℕ). base place.1) nat_list_cmp_total)
-    (then_total (on_total (λ (place : Folder × List ℕ). rank place.0) nat_cmp_total)
-    (on_total (λ (place : Folder × List ℕ). place.1) nat_list_cmp_total))
 
 pub place_total : IsTotalOrder place_cmp
 place_total = on_total folder_and_name places_total

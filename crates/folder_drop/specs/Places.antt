@@ -1,5 +1,7 @@
 -- The order of the files of a Maildir, which is that of messages.
+use Rattle.std.proofs.lemmas.Cmp.{nat_cmp_total, nat_list_cmp_total, on_total, then_total}
 use Rattle.std.specs.{
+  Cmp.IsTotalOrder,
   Prelude.{◌≡◌, ℕ, List, String, map, string_bytes},
   Cmp.Lexicographic.slice_cmp,
   List.Sorted.IsSorted,
@@ -40,6 +42,11 @@ abbrev pub places_cmp : Folder × List ℕ → Folder × List ℕ → Ordering
 places_cmp = then_cmp (on (λ (place : Folder × List ℕ). base place.1) (slice_cmp nat_cmp))
     (then_cmp (on (λ (place : Folder × List ℕ). rank place.0) nat_cmp)
     (on (λ (place : Folder × List ℕ). place.1) (slice_cmp nat_cmp)))
+
+pub places_total : IsTotalOrder places_cmp
+places_total = then_total (on_total (λ (place : Folder × List ℕ). base place.1) nat_list_cmp_total)
+    (then_total (on_total (λ (place : Folder × List ℕ). rank place.0) nat_cmp_total)
+    (on_total (λ (place : Folder × List ℕ). place.1) nat_list_cmp_total))
 
 abbrev pub place_cmp : PlacedFile → PlacedFile → Ordering
 place_cmp = on folder_and_name places_cmp
