@@ -1,34 +1,29 @@
 -- A Maildir in memory: its names, and the files that they are of.
 use Rattle.std.{
-  proofs.Common.{◌≡◌, ◌≢◌, ◌⊎◌, ◌≤◌, ◌<◌, ◌+◌, ◌∙◌, ◌++◌, ◌∷◌, [], ℕ, Bool, true, false, not, List, Result, Ok, Err, Some, None, IfOk, All},
-  proofs.Common.{Contains, ap, append-nil, arith, get_or, inl, inr, length, map, pos, refl, subst, sym, unsigned_abs},
+  proofs.Common.{◌≡◌, ◌≢◌, ◌⊎◌, ◌≤◌, ◌<◌, ◌∙◌, ◌++◌, ◌∷◌, [], ℕ, Bool, true, false, not, List, Result, Ok, Err, Some, None, IfOk, All},
+  proofs.Common.{Contains, ap, append-nil, arith, get_or, inl, inr, length, map, refl, subst, sym},
   proofs.lemmas.{
     List.{get_or-map, get_or_append_left, get_or_push, length-map, length_push, map-append},
     List.Elements.{All-contains, All-contains_itself, All-cons, All-filter, All-head, All-map, All-tail, filter_passes},
     List.Sorted.{All-permutation, IsPermutation-map},
     Bool.false≢true,
-    Simd.map-map,
   },
   specs.{
-    IoError.error_kind,
     List.{Sorted.IsPermutation, filter},
     declared.io.{ErrorKind.{ErrorKind, TheVariants.NotFound}, Error.Error},
     Prelude.string_bytes,
     Result.is_ok,
   },
 }
-use Rattle.mail_terms.specs.Distinct.{AreDistinct}
 use Rattle.folder_drop.specs.{
   declared.{
-    folders_look.FoldersLook.FoldersLook,
     mail_files.{FileNumber.FileNumber, FileWay.FileWay, Found.Found},
-    maildir_names.{Folder.Folder, Stamp.Stamp},
+    maildir_names.{Folder.Folder},
     memory_files.{MemoryFile.MemoryFile, MemoryFiles.MemoryFiles, MemoryHandle.MemoryHandle},
     memory_names.{MemoryName.MemoryName, MemoryNames.MemoryNames},
   },
-  FoldersLook.IsUnchanged,
-  MailFiles.{AreMailFiles, Bears, DropFile, Has, HasFile, HasOctetsOf, LacksSome, file_place, is_in_place},
-  MemoryFiles.{HasLooked, IsHandle, LacksName, StaysLooked, Takes, elsewhere, file_of, file_put, found_at, mail_files, named},
+  MailFiles.{Bears, DropFile, Has, HasFile, HasOctetsOf, LacksSome, file_place, is_in_place},
+  MemoryFiles.{IsHandle, LacksName, StaysLooked, Takes, elsewhere, file_of, file_put, found_at, mail_files},
   MemoryFiles.{names_after, octets_at},
   MemoryLaws.{content_by_number, places},
   MemoryNames.{HaveFiles, RefusesName, is_elsewhere, place_of},
@@ -48,14 +43,14 @@ still_at g files more k d within =
     let long = length-map files g in
     ap (λ l. get_or l k d) (map-append g files more) ∙ get_or_append_left (map g files) (map g more) d k (omega (arith, long, within))
 
-pub file_still : (files more : List MemoryFile) (one : MemoryName) → one.file < length files
+file_still : (files more : List MemoryFile) (one : MemoryName) → one.file < length files
     → file_of (files ++ more) one ≡ file_of files one
 file_still files more one within = rw (
   still_at (λ (f : MemoryFile). f.content.now) files more one.file [] within,
   still_at (λ (f : MemoryFile). f.is_regular) files more one.file false within,
 ) refl
 
-pub map_still : (files more : List MemoryFile) (names : List MemoryName) → HaveFiles (length files) names
+map_still : (files more : List MemoryFile) (names : List MemoryName) → HaveFiles (length files) names
     → map (file_of (files ++ more)) names ≡ map (file_of files) names
 map_still files more [] known = refl
 map_still files more (one ∷ names) known =
@@ -63,16 +58,13 @@ map_still files more (one ∷ names) known =
     rw (file_still files more one (All-head P one names known)) (ap (λ l. file_of files one ∷ l)
     (map_still files more names (All-tail P one names known)))
 
-items_of : MemoryNames → List MemoryName
-items_of names = names.items.items
-
 pub now_known : (d : MemoryFiles) → HaveFiles (length d.files.items) d.names.items.items
 now_known d =
     let long = length_push d.past.items d.names in
     subst (λ (names : MemoryNames). HaveFiles (length d.files.items) names.items.items)
     (get_or_push d.past.items d.names d.names (length d.past.items) refl) (d.known (length d.past.items) d.names (omega (arith, long)))
 
-pub then_known : (d : MemoryFiles) (k : ℕ) → k ≤ length d.past.items → HaveFiles (length d.files.items) (names_after k d)
+then_known : (d : MemoryFiles) (k : ℕ) → k ≤ length d.past.items → HaveFiles (length d.files.items) (names_after k d)
 then_known d k le =
     let long = length_push d.past.items d.names in
     let within : k < length (d.past.items ++ d.names ∷ []) = omega (arith, long, le) in
@@ -81,7 +73,7 @@ then_known d k le =
     (d.known k d.names within)
 
 -- all versions stay, and so do all files
-pub looked_still : (old new : MemoryFiles) (more : List MemoryFile) (later : List MemoryNames)
+looked_still : (old new : MemoryFiles) (more : List MemoryFile) (later : List MemoryNames)
     → new.files.items ≡ old.files.items ++ more
     → new.past.items ++ new.names ∷ [] ≡ (old.past.items ++ old.names ∷ []) ++ later → length old.past.items ≤ length new.past.items
     → StaysLooked old new
@@ -192,9 +184,13 @@ left_known d place left is = subst (HaveFiles (length d.files.items)) (sym is)
 -- a name that isn't added to those that are left
 refused_left : (names left : List MemoryName) (place : Folder × List ℕ) (kind : ErrorKind) → All (Contains names) left
     → RefusesName (map place_of left) place kind → RefusesName (map place_of names) place kind
-refused_left names left place kind among (inl taken) = inl (taken.0, All-contains (Contains (map place_of names)) (map place_of left) place
-    (All-map (Contains (map place_of names)) place_of left (λ k d within. contains_map place_of names (get_or left k d) (among k d within)))
-    taken.1)
+refused_left names left place kind among (inl taken) = inl (
+  taken.0,
+  All-contains (Contains (map place_of names)) (map place_of left) place
+      (All-map (Contains (map place_of names)) place_of left
+      (λ k d within. contains_map place_of names (get_or left k d) (among k d within)))
+      taken.1,
+)
 refused_left names left place kind among (inr other) = inr other
 
 pub refuses_left : (d : MemoryFiles) (from place : Folder × List ℕ) (left : List MemoryName) (kind : ErrorKind)
@@ -262,7 +258,7 @@ named_gone way old new is = λ k d within leads.
     let place : Folder × List ℕ = (way.folder, string_bytes way.name) in
     let file = get_or new k d in
     let left = subst (All (λ (f : DropFile). is_elsewhere place (file_place f) ≡ true)) (sym is)
-        (filter_passes (λ (f : DropFile). is_elsewhere place (file_place f)) old) k d within in
+    (filter_passes (λ (f : DropFile). is_elsewhere place (file_place f)) old) k d within in
     not_true (is_in_place place file) (is_at_place place file leads.0 leads.1) left
 
 pub gone_if : (way : FileWay) (old new : List DropFile) (result : Result Unit Error)

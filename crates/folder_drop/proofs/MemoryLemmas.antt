@@ -1,6 +1,7 @@
 -- The names in the folders of a Maildir in memory.
 use Rattle.std.{
-  proofs.Common.{◌≡◌, ◌≢◌, ◌≤◌, ◌<◌, ◌+◌, ◌∙◌, ◌++◌, ◌∷◌, [], ℕ, zero, suc, Bool, true, false, List, Result, Ok, Err, IfErr, IfOk, All, Contains},
+  proofs.Common.{◌≡◌, ◌≢◌, ◌≤◌, ◌<◌, ◌+◌, ◌∙◌, ◌∷◌, [], ℕ, zero, suc, Bool, true, false, List, Result, Ok, Err, IfErr, IfOk, All},
+  proofs.Common.{Contains},
   proofs.Common.{ap, arith, cond, drop, get_or, length, map, refl, subst, sym, take, ⊎_elim},
   proofs.lemmas.{
     Bool.{cases_lt, false≢true},
@@ -17,13 +18,10 @@ use Rattle.std.{
   },
 }
 use Rattle.folder_drop.specs.{
-  declared.{
-    maildir_names.{Folder.{Folder, TheVariants.{Cur, New}}, PlacedFile.PlacedFile},
-    memory_names.MemoryName.MemoryName,
-  },
+  declared.{maildir_names.{Folder.{Folder, TheVariants.{Cur, New}}, PlacedFile.PlacedFile}, memory_names.MemoryName.MemoryName},
   MemoryLaws.differ,
   MemoryNames.{AreAscendingPlaces, is_elsewhere, place_of},
-  Places.{AreInOrder, folder_and_name, place_cmp, places_cmp, places_total, rank},
+  Places.{AreInOrder, folder_and_name, places_cmp, places_total, rank},
 }
 use Rattle.folder_drop.proofs.{MailLemmas.same_pair, SeenLemmas.equal_from_cmp}
 
@@ -40,17 +38,14 @@ rank_equal New New e = refl
 rank_equal Cur New e = absurd (false≢true (sym (ap is_lt e)))
 rank_equal New Cur e = absurd (false≢true (ap is_eq e))
 
-pub equal_places : (a b : Folder × List ℕ) → places_cmp a b ≡ Equal → a ≡ b
+equal_places : (a b : Folder × List ℕ) → places_cmp a b ≡ Equal → a ≡ b
 equal_places a b e =
     let rest = (then_equal _ _ e).1 in
     let both = then_equal _ _ rest in
     same_pair a.0 b.0 a.1 b.1 (rank_equal a.0 b.0 both.0) (equal_from_cmp a.1 b.1 both.1)
 
-pub less_turned : (a b : Folder × List ℕ) → places_cmp a b ≡ Greater → places_cmp b a ≡ Less
-less_turned a b e = places_total.antisymm b a ∙ ap ordering_reverse e
-
-greater_turned : (a b : Folder × List ℕ) → places_cmp a b ≡ Less → places_cmp b a ≡ Greater
-greater_turned a b e = places_total.antisymm b a ∙ ap ordering_reverse e
+turned : (a b : Folder × List ℕ) (o : Ordering) → places_cmp a b ≡ o → places_cmp b a ≡ ordering_reverse o
+turned a b o e = places_total.antisymm b a ∙ ap ordering_reverse e
 
 index_most : (o : Ordering) → ordering_index o ≤ 2
 index_most Less = omega arith
@@ -66,7 +61,8 @@ index_rises x y p less Less e = at_least (places_cmp x p) (places_cmp y p) (plac
 index_rises x y p less Equal e =
     at_least (places_cmp x p) (places_cmp y p) (subst (λ q. places_cmp x q ≡ Less) (equal_places y p e) less)
 index_rises x y p less Greater e =
-    let most = index_most (places_cmp x p) in let here : ordering_index (places_cmp y p) ≡ 2 = ap ordering_index e in omega (arith, most, here)
+    let most = index_most (places_cmp x p) in
+    let here : ordering_index (places_cmp y p) ≡ 2 = ap ordering_index e in omega (arith, most, here)
 
 -- ---- a name among those that are in order
 
@@ -108,7 +104,7 @@ module _ (names : List MemoryName) (place : Folder × List ℕ) where
   none_there at parted = λ k d within. ⊎_elim
       (λ (lt : k < at). differ (place_of (get_or names k d)) place (parted.0 k d (omega arith) lt))
       (λ (ge : at ≤ k). λ same. differ place (place_of (get_or names k d))
-      (less_turned (place_of (get_or names k d)) place (parted.1 k d ge within)) (sym same))
+      (turned (place_of (get_or names k d)) place Greater (parted.1 k d ge within)) (sym same))
       (cases_lt k at)
 
 pub has_place : (names : List MemoryName) (place : Folder × List ℕ) (d : MemoryName) (at : ℕ) → at < length names
@@ -132,7 +128,7 @@ AllPairs-insert f R [] (suc i) y all low high =
     AllPairs-cons R (f y) [] (λ k d within. absurd (omega (arith, within))) all
 AllPairs-insert f R (x ∷ xs) (suc i) y all low high =
     let first : All (λ z. R (f x) (f z)) xs = λ k d within. let long = length-map xs f in
-        rw (← get_or-map f xs k d) (all zero (suc k) (f d) (omega arith) (omega (arith, long, within))) in
+    rw (← get_or-map f xs k d) (all zero (suc k) (f d) (omega arith) (omega (arith, long, within))) in
     AllPairs-cons R (f x) (map f (insert xs i y))
     (All-map (R (f x)) f (insert xs i y) (All-insert (λ z. R (f x) (f z)) xs i y first (low zero x (omega arith) (omega arith))))
     (AllPairs-insert f R xs i y (λ k j d lt within. all (suc k) (suc j) d (omega (arith, lt)) (omega (arith, within)))
@@ -144,7 +140,7 @@ pub ascends_with : (names : List MemoryName) (at : ℕ) (one : MemoryName) → A
     (λ other. places_cmp (place_of other) (place_of one) ≡ Greater) names at
     → AreAscendingPlaces (map place_of (insert names at one))
 ascends_with names at one ascending parted = AllPairs-insert place_of (λ a b. places_cmp a b ≡ Less) names at one ascending parted.0
-    (λ k d from within. less_turned (place_of (get_or names k d)) (place_of one) (parted.1 k d from within))
+    (λ k d from within. turned (place_of (get_or names k d)) (place_of one) Greater (parted.1 k d from within))
 
 cond_map : {X Y : Type 0} (f : X → Y) (b : Bool) (x : X) (xs : List X) (ys : List Y) → map f xs ≡ ys
     → map f (cond b (x ∷ xs) xs) ≡ cond b (f x ∷ ys) ys
@@ -169,6 +165,6 @@ listed_in_order files places ascending same = λ k d from within.
     let a = folder_and_name (get_or files k d) in
     let b = folder_and_name (get_or files (k + 1) d) in
     let less = in_both (λ x y. places_cmp x y ≡ Less) _ _ a b (get_or-map folder_and_name files k d)
-        (get_or-map folder_and_name files (k + 1) d)
-        (subst AreAscendingPlaces (sym same) ascending k (k + 1) (folder_and_name d) (omega arith) (omega (arith, long, within))) in
-    ap is_lt (greater_turned a b less)
+    (get_or-map folder_and_name files (k + 1) d)
+    (subst AreAscendingPlaces (sym same) ascending k (k + 1) (folder_and_name d) (omega arith) (omega (arith, long, within))) in
+    ap is_lt (turned a b Less less)

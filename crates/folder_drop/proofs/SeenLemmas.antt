@@ -1,6 +1,6 @@
 -- The files with one base, of files that are in order.
 use Rattle.std.{
-  proofs.Common.{◌≡◌, ◌≢◌, ◌⊎◌, ◌≤◌, ◌<◌, ◌-◌, ◌+◌, ◌∷◌, ◌∙◌, ℕ, Bool, true, false, List, [], Option, Some, None, IfSome, IfNone},
+  proofs.Common.{◌≡◌, ◌≢◌, ◌≤◌, ◌<◌, ◌-◌, ◌+◌, ◌∷◌, ◌∙◌, ℕ, Bool, true, false, List, [], Option, Some, None, IfSome, IfNone},
   proofs.Common.{Bor, ap, drop, get_or, length, refl, subst, sym, take},
   proofs.Common.{arith, ⊎_elim},
   proofs.lemmas.{
@@ -23,7 +23,7 @@ use Rattle.std.{
 }
 use Rattle.folder_drop.specs.{
   declared.maildir_names.PlacedFile.PlacedFile,
-  Places.{AreInOrder, base_of_file, folder_and_name, name_of_file, place_cmp, places_total},
+  Places.{AreInOrder, base_of_file, folder_and_name, place_cmp, places_total},
   SeenFiles.{NoneHasBase, HaveBase},
 }
 

@@ -16,7 +16,7 @@ use Rattle.folder_drop.specs.{
     memory_names.{MemoryName.MemoryName, MemoryNames.MemoryNames},
   },
   MailFiles.{Bears, DropFile, HasFile, file_place},
-  MemoryNames.{RefusesName, is_elsewhere, place_of},
+  MemoryNames.{RefusesName, is_elsewhere},
 }
 
 -- the octets of a file
@@ -48,7 +48,8 @@ mail_files d = map (file_of d.files.items) d.names.items.items
 
 -- the names after so many changes
 abbrev pub names_after : ℕ → MemoryFiles → List MemoryName
-names_after changes d = slice_index_or (map (λ (names : MemoryNames). names.items.items) (d.past.items ++ d.names ∷ [])) changes []
+names_after changes d =
+    slice_index_or (map (λ (names : MemoryNames). names.items.items) (d.past.items ++ d.names ∷ [])) changes []
 
 -- these files were there at a look, whose time of change shows after how many changes it was
 abbrev pub HasLooked : MemoryFiles → FoldersLook → List DropFile → Type 0

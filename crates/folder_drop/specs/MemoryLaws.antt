@@ -1,12 +1,12 @@
 -- The laws of a Maildir in memory.
 use Rattle.std.{
   proofs.{
-    Common.{ap, refl, sym, subst, ◌∙◌, ◌∷◌, unsigned_abs},
+    Common.{ap, refl, sym, subst, ◌∙◌, unsigned_abs},
     lemmas.{Bool.false≢true, Cmp.tied_itself, List.Elements.{All-contains, All-map}, Simd.map-map},
   },
   specs.{
     Ordering.is_lt,
-    Prelude.{◌≡◌, ◌≢◌, ℕ, List, All, Contains, map, pos, slice_index_or},
+    Prelude.{◌≡◌, ◌≢◌, ℕ, List, Contains, map, pos, slice_index_or},
     declared.cmp.Ordering.TheVariants.{Equal, Less},
   },
 }
@@ -32,19 +32,20 @@ differ a b less same =
     false≢true (ap is_lt (sym tied ∙ less))
 
 distinct_places : (places : List (Folder × List ℕ)) → AreAscendingPlaces places → AreDistinct places
-distinct_places places ascending = λ i j d lt within. differ (slice_index_or places i d) (slice_index_or places j d) (ascending i j d lt within)
+distinct_places places ascending = λ i j d lt within.
+    differ (slice_index_or places i d) (slice_index_or places j d) (ascending i j d lt within)
 
 pub places : (d : MemoryFiles) → map file_place (mail_files d) ≡ map place_of d.names.items.items
 places d = map-map file_place (file_of d.files.items) d.names.items.items
 
-pub content_by_number : (files : List MemoryFile) (names : List MemoryName) (file : DropFile) → Contains (map (file_of files) names) file
-    → file.content ≡ octets_at files file.number.inode
+pub content_by_number : (files : List MemoryFile) (names : List MemoryName) (file : DropFile)
+    → Contains (map (file_of files) names) file → file.content ≡ octets_at files file.number.inode
 content_by_number files names file there =
     let P : DropFile → Type 0 = λ f. f.content ≡ octets_at files f.number.inode in
     All-contains P (map (file_of files) names) file (All-map P (file_of files) names (λ k d within. refl)) there
 
-content_by_stamp : (files : List MemoryFile) (names : List MemoryName) (file : DropFile) → Contains (map (file_of files) names) file
-    → file.content ≡ octets_at files file.stamp.seconds
+content_by_stamp : (files : List MemoryFile) (names : List MemoryName) (file : DropFile)
+    → Contains (map (file_of files) names) file → file.content ≡ octets_at files file.stamp.seconds
 content_by_stamp files names file there =
     let P : DropFile → Type 0 = λ f. f.content ≡ octets_at files f.stamp.seconds in
     All-contains P (map (file_of files) names) file (All-map P (file_of files) names (λ k d within. refl)) there
@@ -55,7 +56,8 @@ pub keeps_content : (d : MemoryFiles) (look : FoldersLook) (was : List DropFile)
 keeps_content d look was file before looked there had same =
     let files = d.files.items in
     content_by_stamp files d.names.items.items file there ∙ ap (λ (s : Stamp). octets_at files s.seconds) same
-    ∙ sym (content_by_stamp files (names_after looked.0 d) before (subst (λ (l : List DropFile). Contains l before) looked.3 had))
+    ∙ sym (content_by_stamp files (names_after looked.0 d) before
+    (subst (λ (l : List DropFile). Contains l before) looked.3 had))
 
 pub rests_so : (d : MemoryFiles) (earlier later : FoldersLook) (was now : List DropFile) → HasLooked d earlier was
     → HasLooked d later now → IsUnchanged earlier later → was ≡ now

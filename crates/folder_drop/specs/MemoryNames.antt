@@ -2,7 +2,8 @@
 use Rattle.std.specs.{
   Prelude.{◌≡◌, ◌⊎◌, ◌==◌, ◌&&◌, ◌<◌, ℕ, Bool, not, false, List, All, Contains, bytes_eq},
   List.AllPairs,
-  declared.{cmp.Ordering.TheVariants.Less, io.ErrorKind.{ErrorKind, TheVariants.{AlreadyExists, InvalidInput, OutOfMemory}}},
+  declared.cmp.Ordering.TheVariants.Less,
+  declared.io.ErrorKind.{ErrorKind, TheVariants.{AlreadyExists, InvalidInput, OutOfMemory}},
 }
 use Rattle.folder_drop.specs.{
   declared.{maildir_names.Folder.Folder, memory_names.MemoryName.MemoryName},

@@ -185,7 +185,7 @@ pub trait MailFiles {
     // getdents(2): all names of a folder that nobody changes meanwhile.
     ghost lists: { (d : Self) (all : List PlacedFile) → sound d → told d all → TellsEach (files d) all };
 
-    // lstat(2), of a name that a listing may tell.
+    // lstat(2).
     ghost finds: { (d : Self) (way : FileWay) (what : Option Found) → sound d → found d way what
         → Bears (files d) way what };
 

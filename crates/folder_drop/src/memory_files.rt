@@ -15,17 +15,17 @@ use std::mem;
 /// A regular file, or what is none.
 #[derive(Clone, Copy)]
 pub struct MemoryFile<'a> {
-    pub is_regular: bool,
-    pub content: &'a [u8],
+    is_regular: bool,
+    content: &'a [u8],
 }
 
 /// A file that was opened.
 #[derive(Drop)]
 pub struct MemoryHandle<'a> {
     /// What it is.
-    pub found: Found,
+    found: Found,
     /// What is left to read.
-    pub rest: &'a [u8],
+    rest: &'a [u8],
 }
 
 impl<'a> Read for MemoryHandle<'a> {
@@ -41,23 +41,23 @@ impl<'a> Read for MemoryHandle<'a> {
 /// A Maildir in memory, in which several names may be those of one file. Texts and names are lent to it.
 #[derive(Drop)]
 pub struct MemoryFiles<'a> {
-    pub alloc: Global,
-    pub hasher: RandomState,
+    alloc: Global,
+    hasher: RandomState,
     /// Each file that ever came: its number is its place here.
-    pub files: Vec<MemoryFile<'a>>,
+    files: Vec<MemoryFile<'a>>,
     /// The names now.
-    pub names: MemoryNames<'a>,
+    names: MemoryNames<'a>,
     /// The names before each change.
-    pub past: Vec<MemoryNames<'a>>,
+    past: Vec<MemoryNames<'a>>,
     /// When the names were last changed.
-    pub changed: u64,
+    changed: u64,
     /// The time, in seconds since 1970.
-    pub clock: u64,
+    clock: u64,
     ghost known: { All (λ names. HaveFiles (length files.items) names.items.items) (past.items ++ names ∷ []) },
 }
 
 impl<'a> MemoryFiles<'a> {
-    ghost use Rattle.std.specs.Prelude.{true, false};
+    ghost use Rattle.std.specs.Prelude.{◌+◌, ◌-◌, ◌^◌, false, min, true};
     ghost use Rattle.folder_drop.specs.MemoryFiles.{Finds, Links, Puts, Renames, StaysLooked, Takes};
     ghost use Rattle.folder_drop.specs.MemoryFiles.{file_put, found_at, mail_files, place_in};
 
@@ -134,9 +134,11 @@ impl<'a> MemoryFiles<'a> {
         self.add(folder, name, file)
     }
 
-    /// link(2): a file gets a second name. NotFound if nothing has the first, AlreadyExists if something has the second.
+    /// link(2): a file gets a second name. NotFound if nothing has the first, AlreadyExists if something has the
+    /// second.
     pub fn link(&mut self, from: (Folder, &str), to: (Folder, &'a str)) -> io::Result<()>
-        ensures links { Links (place_in from.entry) (place_in to.entry) (mail_files self.old) result (mail_files self.new) }
+        ensures links { Links (place_in from.entry) (place_in to.entry) (mail_files self.old) result
+            (mail_files self.new) }
         ensures stays { StaysLooked self.old self.new }
     {
         let MemoryName { file, .. } = self.names.find(from.0, from.1)?;
@@ -153,7 +155,8 @@ impl<'a> MemoryFiles<'a> {
     /// rename(2), to a name that nothing has. NotFound if nothing has the first, AlreadyExists if something has the
     /// second.
     pub fn rename(&mut self, from: (Folder, &str), to: (Folder, &'a str)) -> io::Result<()>
-        ensures renames { Renames (place_in from.entry) (place_in to.entry) (mail_files self.old) result (mail_files self.new) }
+        ensures renames { Renames (place_in from.entry) (place_in to.entry) (mail_files self.old) result
+            (mail_files self.new) }
         ensures stays { StaysLooked self.old self.new }
     {
         let MemoryName { file, .. } = self.names.find(from.0, from.1)?;
@@ -184,6 +187,7 @@ impl<'a> MemoryFiles<'a> {
 
     /// So many seconds pass.
     pub fn rest(&mut self, seconds: u64)
+        ensures clock { self.new.clock ≡ min (self.old.clock + seconds) (2 ^ 64 - 1) }
         ensures same { mail_files self.new ≡ mail_files self.old }
         ensures stays { StaysLooked self.old self.new }
     {

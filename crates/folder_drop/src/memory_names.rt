@@ -48,7 +48,7 @@ impl<'a> MemoryName<'a> {
 /// Names in the order of messages, each once.
 #[derive(Drop)]
 pub struct MemoryNames<'a> {
-    pub items: Vec<MemoryName<'a>>,
+    items: Vec<MemoryName<'a>>,
     ghost ascending: { AreAscendingPlaces (map place_of items.items) },
 }
 

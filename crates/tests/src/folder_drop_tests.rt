@@ -28,11 +28,24 @@ fn read_message(rt: &impl Abort, maildrop: &mut FilesDrop<MemoryFiles<'_>>) -> R
     Ok(())
 }
 
+/// The ids that a maildrop lists, in order.
+fn check_ids(
+    rt: &impl Abort,
+    maildrop: &mut FilesDrop<MemoryFiles<'_>>,
+    ids: &[&[u8]],
+) -> Result<(), Fail> {
+    let entries = maildrop.entries()?;
+    assert_eq!(rt; entries.len(), ids.len());
+    for (entry, id) in entries.iter().zip(ids) {
+        assert!(rt; entry.uid() == *id);
+    }
+    Ok(())
+}
+
 /// What is assumed of the calls for a Maildir can hold of calls that are granted.
 #[test]
 fn a_maildir_in_memory_is_served(rt: HostRuntime) -> Result<(), Fail> {
-    let hasher = RandomState::new(&rt)?;
-    let mut files = MemoryFiles::new(rt.alloc(), hasher);
+    let mut files = MemoryFiles::new(rt.alloc(), RandomState::new(&rt)?);
     files.put(Folder::New, "a:2,S", b"one\ntwo\n")?;
     let mut first = FilesDrop::over(files);
     read_message(&rt, &mut first)?;
@@ -45,4 +58,52 @@ fn a_maildir_in_memory_is_served(rt: HostRuntime) -> Result<(), Fail> {
     let mut last = maildrop.renewed();
     assert!(rt; last.entries()?.is_empty());
     Ok(())
+}
+
+/// Files are in the order of their bases, and what is no regular file is none.
+#[test]
+fn files_in_memory_are_in_order(rt: HostRuntime) -> Result<(), Fail> {
+    let mut files = MemoryFiles::new(rt.alloc(), RandomState::new(&rt)?);
+    files.put(Folder::New, "b", b"one")?;
+    files.put(Folder::New, "a.b", b"two")?;
+    files.put(Folder::Cur, "a:2,S", b"three")?;
+    files.put_other(Folder::Cur, "a-")?;
+    assert!(rt; files.put(Folder::New, "b", b"four").is_err());
+    assert!(rt; files.put(Folder::New, ".c", b"four").is_err());
+    files.rename((Folder::New, "b"), (Folder::Cur, "c:2,"))?;
+    assert!(rt; files.take((Folder::New, "b")).is_err());
+    let mut maildrop = FilesDrop::over(files);
+    check_ids(&rt, &mut maildrop, &[b"a".as_slice(), b"a.b", b"c"])
+}
+
+/// A message goes with all names of its file and with its copies. Its listing is valid until then, and no longer.
+#[test]
+fn a_message_in_memory_goes_with_its_copies(rt: HostRuntime) -> Result<(), Fail> {
+    let mut files = MemoryFiles::new(rt.alloc(), RandomState::new(&rt)?);
+    files.put(Folder::New, "a", b"one")?;
+    files.link((Folder::New, "a"), (Folder::Cur, "a:2,S"))?;
+    files.put(Folder::Cur, "a:2,F", b"one")?;
+    files.put(Folder::New, "b", b"two")?;
+    files.rest(3);
+    let mut first = FilesDrop::over(files);
+    check_ids(&rt, &mut first, &[b"a".as_slice(), b"b"])?;
+    let mut next = first.renewed();
+    check_ids(&rt, &mut next, &[b"a".as_slice(), b"b"])?;
+    next.remove(0)?;
+    let mut last = next.renewed();
+    check_ids(&rt, &mut last, &[b"b".as_slice()])
+}
+
+/// Of two messages with one base neither goes, and both are told.
+#[test]
+fn two_messages_in_memory_stay(rt: HostRuntime) -> Result<(), Fail> {
+    let mut files = MemoryFiles::new(rt.alloc(), RandomState::new(&rt)?);
+    files.put(Folder::New, "a", b"one")?;
+    files.put(Folder::Cur, "a:2,S", b"two")?;
+    let mut maildrop = FilesDrop::over(files);
+    check_ids(&rt, &mut maildrop, &[b"a".as_slice()])?;
+    assert!(rt; maildrop.remove(0).err() == Some(DropFault::Refused));
+    assert_eq!(rt; maildrop.not_removed().len(), 1);
+    let mut last = maildrop.renewed();
+    check_ids(&rt, &mut last, &[b"a".as_slice()])
 }

@@ -1,5 +1,5 @@
 use Rattle.std.proofs.{
-  Common.{◌≡◌, ◌∙◌, ◌<◌, ◌∷◌, [], List, ap, arith, inr, length, refl, subst, sym},
+  Common.{◌∙◌, ◌<◌, ◌∷◌, [], ap, arith, inr, length, refl, subst, sym},
   lemmas.{List.{Elements.All-weaker, length_push}, Result.err_from_is_err_and},
 }
 use Rattle.std.specs.List.Sorted.{IsPermutation}
@@ -45,7 +45,8 @@ returns-clause-puts c =
     let files = ap (λ v. v.items) c.change.ensures.files ∙ c.in_ok-push.ensures.items in
     let new : MemoryName = record { folder = c.args.folder; name = c.args.name; file = c.len.result } in
     puts_one d c.change.new.self new c.args.file (c.len.ensures ∙ d.files.ok.0) files
-    (subst (λ (names : MemoryNames). IsPermutation (new ∷ d.names.items.items) names.items.items) (sym c.in_ok-change.ensures.ok) c.in_ok-names.ensures.ok)
+    (subst (λ (names : MemoryNames). IsPermutation (new ∷ d.names.items.items) names.items.items)
+    (sym c.in_ok-change.ensures.ok) c.in_ok-names.ensures.ok)
 
 pub returns-clause-stays : goal.returns-clause-stays
 returns-clause-stays c =

@@ -34,5 +34,6 @@ returns-clause-links c =
       contains_map (file_of d.files.items) d.names.items.items one found.0,
       found.1,
       names_one d c.change.new.self new d.names.items.items c.change.ensures.files
-          (subst (λ (names : MemoryNames). IsPermutation (new ∷ d.names.items.items) names.items.items) (sym c.in_ok-change.ensures.ok) c.in_ok-names.ensures.ok),
+          (subst (λ (names : MemoryNames). IsPermutation (new ∷ d.names.items.items) names.items.items)
+          (sym c.in_ok-change.ensures.ok) c.in_ok-names.ensures.ok),
     )

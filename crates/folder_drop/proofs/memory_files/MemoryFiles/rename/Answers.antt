@@ -18,17 +18,22 @@ returns-in_err-file-clause-renames c =
 
 pub returns-then-is_ok-clause-renames : goal.returns-then-is_ok-clause-renames
 returns-then-is_ok-clause-renames c =
-    let d = c.args.self.now in
-    (refl, inr (inl (
-      c.from.ensures,
-      taken_place d (place_in c.args.to) c.find-2.result (sym c.if-is_ok.ensures.value) c.find-2.ensures.ok,
-    )))
+    let d = c.args.self.now in (
+      refl,
+      inr (inl (
+        c.from.ensures,
+        taken_place d (place_in c.args.to) c.find-2.result (sym c.if-is_ok.ensures.value) c.find-2.ensures.ok,
+      )),
+    )
 
 pub returns-in_err-names-clause-renames : goal.returns-in_err-names-clause-renames
 returns-in_err-names-clause-renames c =
     let p = err_from_is_err_and c.from_residual-in_err-names.result c.from_residual-in_err-names.ensures.1 in
-    rw (p.1, p.2) (refl, inr (refuses_left c.args.self.now (place_in c.args.from) (place_in c.args.to) c.in_ok-others.others.items.items _
-    c.in_ok-others.ensures c.in_err-names.ensures.err))
+    rw (p.1, p.2) (
+      refl,
+      inr (refuses_left c.args.self.now (place_in c.args.from) (place_in c.args.to) c.in_ok-others.others.items.items _
+          c.in_ok-others.ensures c.in_err-names.ensures.err),
+    )
 
 pub change-requires : goal.change-requires
 change-requires c =

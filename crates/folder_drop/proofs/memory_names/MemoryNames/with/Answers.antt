@@ -1,7 +1,4 @@
-use Rattle.std.{
-  proofs.{Common.{◌≡◌, ◌∙◌, inl, subst, sym}, lemmas.List.Sorted.IsPermutation-insert},
-  specs.List.{Sorted.IsPermutation, insert},
-}
+use Rattle.std.{proofs.{Common.{◌∙◌, inl}, lemmas.List.Sorted.IsPermutation-insert}}
 use Rattle.folder_drop.specs.MemoryNames.{place_of}
 use Rattle.folder_drop.proofs.MemoryLemmas.{ascends_with, has_place}
 use Rattle.folder_drop.proofs.memory_names.MemoryNames.with.Goals as goal
