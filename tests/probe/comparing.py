@@ -50,9 +50,9 @@ def put(path, octets):
 
 
 def act_in_turn(acts):
-    """Of a file that isn't there the comparison tells, while the program would wait for an act that failed."""
+    """Of an act that failed the comparison tells, while the program would wait for the next one."""
     for pipe, act, *words in acts:
-        with open(pipe, "w"), contextlib.suppress(FileNotFoundError):
+        with open(pipe, "w"), contextlib.suppress(OSError):
             act(*words)
 
 

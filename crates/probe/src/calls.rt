@@ -3,7 +3,7 @@
 ghost use Rattle.std.specs.Prelude.{◌≡◌, ◌<◌, length};
 
 use crate::trouble::{Result, Trouble};
-use crate::{power, shared};
+use crate::{drop_calls, power, shared};
 use folder_store::{Access, FileCalls, FileKind, FileStat, HostCalls, MadeHandle};
 use std::alloc::Global;
 use std::fs;
@@ -15,15 +15,15 @@ use test_devices::MemoryCalls;
 const NEXT: &str = "next\n";
 
 /// The most octets that are read at once.
-const ROOM: usize = 64;
+pub const ROOM: usize = 64;
 
-/// What makes the calls of a list.
-pub trait Player {
+/// What makes the calls of a list. It may keep what the list says of the other process.
+pub trait Player<'l> {
     /// Makes the call of a line.
     fn call_line(&mut self, words: (&str, &str, &str), answers: &mut Vec<u8>) -> Result<()>;
 
     /// Does in memory what the other process does.
-    fn act_as_other(&mut self, word: &str) -> Result<()>;
+    fn act_as_other(&mut self, word: &'l str) -> Result<()>;
 }
 
 /// What a list made and opened, in the order in which it asked for that. None is what was refused.
@@ -41,29 +41,47 @@ pub struct FilePlayer<C: FileCalls> {
     handles: Handles<C>,
 }
 
+/// A word, and what comes after the space behind it.
+pub fn halves(word: &str) -> (&str, &str) {
+    word.split_once(' ').unwrap_or((word, ""))
+}
+
 /// How a refusal is told.
-pub fn word_of(denial: &Denial) -> &str {
-    match denial.kind() {
+pub fn word_of(kind: ErrorKind) -> &'static str {
+    match kind {
         ErrorKind::NotFound => "absent",
         ErrorKind::Interrupted => "interrupted",
         _ => "refused",
     }
 }
 
+/// Adds an answer of one word.
+pub fn tell_word(answers: &mut Vec<u8>, word: &str) -> Result<()> {
+    writeln!(answers, "{word}")?;
+    Ok(())
+}
+
+/// Adds octets that were read.
+pub fn tell_octets(answers: &mut Vec<u8>, octets: &[u8]) -> Result<()> {
+    answers.push(b'=')?;
+    answers.extend_from_slice(octets)?;
+    answers.push(b'\n')?;
+    Ok(())
+}
+
 /// Adds the answer of a call that only does something.
 pub fn tell_done(answers: &mut Vec<u8>, answer: std::result::Result<(), Denial>) -> Result<()> {
     match answer {
-        Ok(()) => writeln!(answers, "done")?,
-        Err(denial) => writeln!(answers, "{}", word_of(&denial))?,
+        Ok(()) => tell_word(answers, "done"),
+        Err(denial) => tell_word(answers, word_of(denial.kind())),
     }
-    Ok(())
 }
 
 /// Adds the answer of a call that writes.
 pub fn tell_count(answers: &mut Vec<u8>, answer: std::result::Result<usize, Denial>) -> Result<()> {
     match answer {
         Ok(count) => writeln!(answers, "{count}")?,
-        Err(denial) => writeln!(answers, "{}", word_of(&denial))?,
+        Err(denial) => writeln!(answers, "{}", word_of(denial.kind()))?,
     }
     Ok(())
 }
@@ -79,7 +97,7 @@ pub fn tell_stat(
             FileKind::Folder => writeln!(answers, "folder")?,
             FileKind::Other => writeln!(answers, "other")?,
         },
-        Err(denial) => writeln!(answers, "{}", word_of(&denial))?,
+        Err(denial) => writeln!(answers, "{}", word_of(denial.kind()))?,
     }
     Ok(())
 }
@@ -93,14 +111,13 @@ pub fn keep<T: Drop>(
     match answer {
         Ok(handle) => {
             handles.push(Some(handle))?;
-            writeln!(answers, "done")?;
+            tell_word(answers, "done")
         }
         Err(denial) => {
             handles.push(None)?;
-            writeln!(answers, "{}", word_of(&denial))?;
+            tell_word(answers, word_of(denial.kind()))
         }
     }
-    Ok(())
 }
 
 /// Takes a handle out, if it is there.
@@ -171,14 +188,9 @@ fn read<C: FileCalls>(
         return Err(Trouble::Other);
     }
     match calls.read(file, &mut buf[..count]) {
-        Ok(count) => {
-            answers.push(b'=')?;
-            answers.extend_from_slice(&buf[..count])?;
-            answers.push(b'\n')?;
-        }
-        Err(denial) => writeln!(answers, "{}", word_of(&denial))?,
+        Ok(count) => tell_octets(answers, &buf[..count]),
+        Err(denial) => tell_word(answers, word_of(denial.kind())),
     }
-    Ok(())
 }
 
 /// Cuts a file to so many octets, if it has them.
@@ -191,16 +203,12 @@ fn cut<C: FileCalls>(
     match calls.fstat(file) {
         Ok(found) => {
             if len > found.len {
-                writeln!(answers, "beyond")?;
-                return Ok(());
+                return tell_word(answers, "beyond");
             }
             let answer = calls.ftruncate(file, len);
             tell_done(answers, answer)
         }
-        Err(denial) => {
-            writeln!(answers, "{}", word_of(&denial))?;
-            Ok(())
-        }
+        Err(denial) => tell_word(answers, word_of(denial.kind())),
     }
 }
 
@@ -244,8 +252,7 @@ fn call_line<C: FileCalls>(
         call_on_opened(calls, &mut file, call, word, answers)?;
         return put_back(&mut handles.opened, number, file);
     }
-    writeln!(answers, "no handle")?;
-    Ok(())
+    tell_word(answers, "no handle")
 }
 
 /// The three words of a line.
@@ -264,13 +271,13 @@ fn put_file<C: FileCalls>(alloc: Global, calls: &mut C, path: &str, octets: &str
     Ok(())
 }
 
-impl<C: FileCalls> Player for FilePlayer<C> {
+impl<'l, C: FileCalls> Player<'l> for FilePlayer<C> {
     fn call_line(&mut self, words: (&str, &str, &str), answers: &mut Vec<u8>) -> Result<()> {
         call_line(&mut self.calls, &mut self.handles, words, answers)
     }
 
-    fn act_as_other(&mut self, word: &str) -> Result<()> {
-        let (path, octets) = word.split_once(' ').unwrap_or((word, ""));
+    fn act_as_other(&mut self, word: &'l str) -> Result<()> {
+        let (path, octets) = halves(word);
         put_file(self.alloc, &mut self.calls, path, octets)
     }
 }
@@ -284,11 +291,11 @@ fn wait(rt: &HostRuntime, folder: &str, turn: &str) -> Result<()> {
 
 /// Makes the calls of a list, and adds the answers. If it is in a folder of the machine, another process acts between
 /// them.
-pub fn play<P: Player>(
+pub fn play<'l, P: Player<'l>>(
     rt: &HostRuntime,
     folder: Option<&str>,
     player: &mut P,
-    list: &str,
+    list: &'l str,
     answers: &mut Vec<u8>,
 ) -> Result<()> {
     for line in list.lines() {
@@ -303,7 +310,7 @@ pub fn play<P: Player>(
             Some(folder) => wait(rt, folder, words.1)?,
             None => player.act_as_other(words.2)?,
         }
-        writeln!(answers, "other")?;
+        tell_word(answers, "other")?;
     }
     Ok(())
 }
@@ -354,6 +361,9 @@ fn play_on(rt: &HostRuntime, system: &str, list: &str, answers: &mut Vec<u8>) ->
         }
         "power" => power::play_files(rt, folder, list, answers),
         "shared-power" => power::play_mail(rt, list, answers),
+        "drop-machine" | "drop-memory" => {
+            drop_calls::play_on(rt, &machine, system, folder, list, answers)
+        }
         _ => shared::play_on(rt, &machine, system, folder, list, answers),
     }
 }

@@ -4,6 +4,7 @@
 
 mod calls;
 mod conversation;
+mod drop_calls;
 mod judging;
 mod mbox;
 mod power;
@@ -21,7 +22,7 @@ fn tell_usage(rt: &HostRuntime) -> Result<()> {
     println!(rt;
         "usage: probe client, or judge|machine|memory|shared-machine|shared-memory FILE,"
     )?;
-    println!(rt; "       or power|shared-power FILE,")?;
+    println!(rt; "       or drop-machine|drop-memory|power|shared-power FILE,")?;
     println!(rt; "       or session|read COUNT,")?;
     println!(rt; "       or held|deliver|rewrite|append|blocks|sweep|texts|quote PATH COUNT")?;
     Ok(())
@@ -46,6 +47,7 @@ fn use_record(rt: &HostRuntime, call: &str, subject: &str) -> Result<()> {
         "judge" => judging::judge(rt, subject),
         "machine" | "memory" | "power" => calls::play_lists(rt, call, subject),
         "shared-machine" | "shared-memory" | "shared-power" => calls::play_lists(rt, call, subject),
+        "drop-machine" | "drop-memory" => calls::play_lists(rt, call, subject),
         _ => tell_usage(rt),
     }
 }

@@ -1,6 +1,6 @@
 //! Whether a loss of power may leave a state of the disk, after a list of single calls in memory.
 
-use crate::calls::{FilePlayer, Player, play, player_on};
+use crate::calls::{FilePlayer, Player, halves, play, player_on};
 use crate::shared::{self, SharedPlayer};
 use crate::trouble::{Result, Trouble};
 use folder_store::MailFolders;
@@ -18,18 +18,13 @@ fn tell(answers: &mut Vec<u8>, answer: bool) -> Result<()> {
     Ok(())
 }
 
-/// A name and octets, which follow a space.
-fn halves(word: &str) -> (&str, &str) {
-    word.split_once(' ').unwrap_or((word, ""))
-}
-
 /// A file system in memory. A line also asks whether a loss of power may leave some octets at a path, or no file.
 #[derive(Drop)]
 struct FilePower {
     player: FilePlayer<MemoryCalls>,
 }
 
-impl Player for FilePower {
+impl<'l> Player<'l> for FilePower {
     fn call_line(&mut self, words: (&str, &str, &str), answers: &mut Vec<u8>) -> Result<()> {
         let (call, _, word) = words;
         match call {
@@ -43,7 +38,7 @@ impl Player for FilePower {
         }
     }
 
-    fn act_as_other(&mut self, word: &str) -> Result<()> {
+    fn act_as_other(&mut self, word: &'l str) -> Result<()> {
         self.player.act_as_other(word)
     }
 }
@@ -89,7 +84,7 @@ impl MailPower {
     }
 }
 
-impl Player for MailPower {
+impl<'l> Player<'l> for MailPower {
     fn call_line(&mut self, words: (&str, &str, &str), answers: &mut Vec<u8>) -> Result<()> {
         let (call, _, word) = words;
         match call {
@@ -102,7 +97,7 @@ impl Player for MailPower {
         }
     }
 
-    fn act_as_other(&mut self, word: &str) -> Result<()> {
+    fn act_as_other(&mut self, word: &'l str) -> Result<()> {
         self.player.act_as_other(word)
     }
 }

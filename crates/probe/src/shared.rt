@@ -2,7 +2,8 @@
 //! outside.
 
 use crate::calls::{
-    Player, keep, play, put_back, taken, tell_count, tell_done, tell_stat, word_of,
+    Player, keep, play, put_back, taken, tell_count, tell_done, tell_octets, tell_stat, tell_word,
+    word_of,
 };
 use crate::stores::{listing_of, mark_of};
 use crate::trouble::{Result, Trouble};
@@ -71,7 +72,7 @@ fn tell_rest(
     match answer {
         Ok(found) if listed == Some(found.change) => writeln!(answers, "rests")?,
         Ok(_) => writeln!(answers, "changed")?,
-        Err(denial) => writeln!(answers, "{}", word_of(&denial))?,
+        Err(denial) => writeln!(answers, "{}", word_of(denial.kind()))?,
     }
     Ok(())
 }
@@ -82,15 +83,14 @@ fn tell_names(answers: &mut Vec<u8>, names: &[String]) -> Result<()> {
     for name in names {
         write!(answers, " {name}")?;
     }
-    writeln!(answers, "")?;
-    Ok(())
+    tell_word(answers, "")
 }
 
 /// Adds the stems that a pass left.
 fn tell_left(answers: &mut Vec<u8>, answer: std::result::Result<Vec<&str>, Denial>) -> Result<()> {
     match answer {
         Ok(left) => writeln!(answers, "left {}", left.len())?,
-        Err(denial) => writeln!(answers, "{}", word_of(&denial))?,
+        Err(denial) => writeln!(answers, "{}", word_of(denial.kind()))?,
     }
     Ok(())
 }
@@ -124,10 +124,7 @@ impl<S: SharedCalls> SharedPlayer<S> {
                 }
                 tell_names(answers, &found.names)
             }
-            Err(denial) => {
-                writeln!(answers, "{}", word_of(&denial))?;
-                Ok(())
-            }
+            Err(denial) => tell_word(answers, word_of(denial.kind())),
         }
     }
 
@@ -153,10 +150,7 @@ impl<S: SharedCalls> SharedPlayer<S> {
         let number: usize = number.parse()?;
         match self.opened.get(number) {
             Some(Some(file)) => tell_stat(answers, self.calls.fstat(file)),
-            _ => {
-                writeln!(answers, "no handle")?;
-                Ok(())
-            }
+            _ => tell_word(answers, "no handle"),
         }
     }
 
@@ -207,7 +201,7 @@ impl<S: SharedCalls> SharedPlayer<S> {
     }
 }
 
-impl<S: SharedCalls> Player for SharedPlayer<S> {
+impl<'l, S: SharedCalls> Player<'l> for SharedPlayer<S> {
     // A line is a call's name; the number of a file that was made or opened, or `-`; a folder, a name, stems or octets.
     fn call_line(&mut self, words: (&str, &str, &str), answers: &mut Vec<u8>) -> Result<()> {
         let (call, number, word) = words;
@@ -221,12 +215,11 @@ impl<S: SharedCalls> Player for SharedPlayer<S> {
             self.call_on_made(&mut file, call, word, answers)?;
             return put_back(&mut self.made, number, file);
         }
-        writeln!(answers, "no handle")?;
-        Ok(())
+        tell_word(answers, "no handle")
     }
 
     // The folders in memory know what their reader does.
-    fn act_as_other(&mut self, _word: &str) -> Result<()> {
+    fn act_as_other(&mut self, _word: &'l str) -> Result<()> {
         Ok(())
     }
 }
@@ -305,9 +298,7 @@ fn play_in_memory(
         let Some(content) = player.calls.folders.content_at(place) else {
             break;
         };
-        answers.push(b'=')?;
-        answers.extend_from_slice(content)?;
-        answers.push(b'\n')?;
+        tell_octets(answers, content)?;
     }
     Ok(())
 }
