@@ -23,10 +23,10 @@ use Rattle.folder_drop.specs.{
     memory_names.{MemoryName.MemoryName, MemoryNames.MemoryNames},
   },
   MailFiles.{Bears, DropFile, Has, HasFile, HasOctetsOf, LacksSome, file_place, is_in_place},
-  MemoryFiles.{IsHandle, LacksName, StaysLooked, Takes, elsewhere, file_of, file_put, found_at, mail_files},
+  MemoryFiles.{IsHandle, LacksName, StaysLooked, TakesName, elsewhere, file_named, file_put, found_at, mail_files},
   MemoryFiles.{names_after, octets_at},
   MemoryLaws.{content_by_number, places},
-  MemoryNames.{HaveFiles, RefusesName, is_elsewhere, place_of},
+  MemoryNames.{HaveFiles, RefusesName, is_elsewhere, place_of_name},
   Places.IsWayTo,
 }
 use Rattle.folder_drop.proofs.{
@@ -44,18 +44,18 @@ still_at g files more k d within =
     ap (λ l. get_or l k d) (map-append g files more) ∙ get_or_append_left (map g files) (map g more) d k (omega (arith, long, within))
 
 file_still : (files more : List MemoryFile) (one : MemoryName) → one.file < length files
-    → file_of (files ++ more) one ≡ file_of files one
+    → file_named (files ++ more) one ≡ file_named files one
 file_still files more one within = rw (
   still_at (λ (f : MemoryFile). f.content.now) files more one.file [] within,
   still_at (λ (f : MemoryFile). f.is_regular) files more one.file false within,
 ) refl
 
 map_still : (files more : List MemoryFile) (names : List MemoryName) → HaveFiles (length files) names
-    → map (file_of (files ++ more)) names ≡ map (file_of files) names
+    → map (file_named (files ++ more)) names ≡ map (file_named files) names
 map_still files more [] known = refl
 map_still files more (one ∷ names) known =
     let P : MemoryName → Type 0 = λ n. n.file < length files in
-    rw (file_still files more one (All-head P one names known)) (ap (λ l. file_of files one ∷ l)
+    rw (file_still files more one (All-head P one names known)) (ap (λ l. file_named files one ∷ l)
     (map_still files more names (All-tail P one names known)))
 
 pub now_known : (d : MemoryFiles) → HaveFiles (length d.files.items) d.names.items.items
@@ -86,8 +86,8 @@ looked_still old new more later files versions longer look was looked =
     let same : names_after k new ≡ names_after k old =
     ap (λ l. get_or (map items l) k []) versions ∙ ap (λ l. get_or l k []) (map-append items all later)
     ∙ get_or_append_left (map items all) (map items later) [] k (omega (arith, mapped, long, looked.1)) in
-    let kept : map (file_of new.files.items) (names_after k new) ≡ map (file_of old.files.items) (names_after k old) =
-    ap (λ l. map (file_of new.files.items) l) same ∙ ap (λ (l : List MemoryFile). map (file_of l) (names_after k old)) files
+    let kept : map (file_named new.files.items) (names_after k new) ≡ map (file_named old.files.items) (names_after k old) =
+    ap (λ l. map (file_named new.files.items) l) same ∙ ap (λ (l : List MemoryFile). map (file_named l) (names_after k old)) files
     ∙ map_still old.files.items more (names_after k old) (then_known old k looked.1) in
     (k, omega (arith, looked.1, longer), looked.2, looked.3 ∙ sym kept)
 
@@ -118,34 +118,34 @@ put_at g files file d = ap (λ l. get_or l (length files) d) (map-append g files
 
 pub puts_one : (old new : MemoryFiles) (one : MemoryName) (file : MemoryFile) → one.file ≡ length old.files.items
     → new.files.items ≡ old.files.items ++ file ∷ [] → IsPermutation (one ∷ old.names.items.items) new.names.items.items
-    → IsPermutation (file_put old (place_of one) file.is_regular file.content.now ∷ mail_files old) (mail_files new)
+    → IsPermutation (file_put old (place_of_name one) file.is_regular file.content.now ∷ mail_files old) (mail_files new)
 puts_one old new one file number files moved =
-    let own : file_of (old.files.items ++ file ∷ []) one ≡ file_put old (place_of one) file.is_regular file.content.now = rw (
+    let own : file_named (old.files.items ++ file ∷ []) one ≡ file_put old (place_of_name one) file.is_regular file.content.now = rw (
       number,
       put_at (λ (f : MemoryFile). f.content.now) old.files.items file [],
       put_at (λ (f : MemoryFile). f.is_regular) old.files.items file false,
     ) refl in
     let rest = map_still old.files.items (file ∷ []) old.names.items.items (now_known old) in
-    let put = file_put old (place_of one) file.is_regular file.content.now in
-    let all : file_of new.files.items one ∷ map (file_of new.files.items) old.names.items.items ≡ put ∷ mail_files old =
-    subst (λ (fs : List MemoryFile). file_of fs one ∷ map (file_of fs) old.names.items.items ≡ put ∷ mail_files old) (sym files)
+    let put = file_put old (place_of_name one) file.is_regular file.content.now in
+    let all : file_named new.files.items one ∷ map (file_named new.files.items) old.names.items.items ≡ put ∷ mail_files old =
+    subst (λ (fs : List MemoryFile). file_named fs one ∷ map (file_named fs) old.names.items.items ≡ put ∷ mail_files old) (sym files)
     (rw own (ap (λ l. put ∷ l) rest)) in
     subst (λ l. IsPermutation l (mail_files new)) all
-    (IsPermutation-map (file_of new.files.items) (one ∷ old.names.items.items) new.names.items.items moved)
+    (IsPermutation-map (file_named new.files.items) (one ∷ old.names.items.items) new.names.items.items moved)
 
 pub without_place : (d : MemoryFiles) (place : Folder × List ℕ) (left : List MemoryName)
-    → left ≡ filter (λ one. is_elsewhere place (place_of one)) d.names.items.items
-    → map (file_of d.files.items) left ≡ elsewhere place (mail_files d)
-without_place d place left is = ap (map (file_of d.files.items)) is
-    ∙ map-filter (file_of d.files.items) (λ (file : DropFile). is_elsewhere place (file_place file)) d.names.items.items
+    → left ≡ filter (λ one. is_elsewhere place (place_of_name one)) d.names.items.items
+    → map (file_named d.files.items) left ≡ elsewhere place (mail_files d)
+without_place d place left is = ap (map (file_named d.files.items)) is
+    ∙ map-filter (file_named d.files.items) (λ (file : DropFile). is_elsewhere place (file_place file)) d.names.items.items
 
 pub lacks_place : (d : MemoryFiles) (place : Folder × List ℕ) (kind : ErrorKind) → kind ≡ NotFound
-    → All (λ one. place_of one ≢ place) d.names.items.items → LacksName place (mail_files d) kind
+    → All (λ one. place_of_name one ≢ place) d.names.items.items → LacksName place (mail_files d) kind
 lacks_place d place kind is none =
-    (is, All-map (λ (file : DropFile). file_place file ≢ place) (file_of d.files.items) d.names.items.items none)
+    (is, All-map (λ (file : DropFile). file_place file ≢ place) (file_named d.files.items) d.names.items.items none)
 
 pub refuses_place : (d : MemoryFiles) (place : Folder × List ℕ) (kind : ErrorKind)
-    → RefusesName (map place_of d.names.items.items) place kind → RefusesName (map file_place (mail_files d)) place kind
+    → RefusesName (map place_of_name d.names.items.items) place kind → RefusesName (map file_place (mail_files d)) place kind
 refuses_place d place kind refused = subst (λ l. RefusesName l place kind) (sym (places d)) refused
 
 pub contains_map : {A B : Type 0} (f : A → B) (xs : List A) (x : A) → Contains xs x → Contains (map f xs) (f x)
@@ -154,13 +154,13 @@ contains_map f xs x there =
     (there.0, omega (arith, long, there.1), get_or-map f xs there.0 x (f x) there.1 ∙ ap f there.2)
 
 pub place_there : (d : MemoryFiles) (one : MemoryName) (place : Folder × List ℕ) → Contains d.names.items.items one
-    → place_of one ≡ place → Contains (map file_place (mail_files d)) place
+    → place_of_name one ≡ place → Contains (map file_place (mail_files d)) place
 place_there d one place there is = subst (Contains (map file_place (mail_files d))) is
-    (contains_map file_place (mail_files d) (file_of d.files.items one)
-    (contains_map (file_of d.files.items) d.names.items.items one there))
+    (contains_map file_place (mail_files d) (file_named d.files.items one)
+    (contains_map (file_named d.files.items) d.names.items.items one there))
 
 pub taken_place : (d : MemoryFiles) (place : Folder × List ℕ) (r : Result MemoryName Error) → is_ok r ≡ true
-    → IfOk r (λ one. Contains d.names.items.items one × (place_of one ≡ place)) → Contains (map file_place (mail_files d)) place
+    → IfOk r (λ one. Contains d.names.items.items one × (place_of_name one ≡ place)) → Contains (map file_place (mail_files d)) place
 taken_place d place (Ok one) is there = place_there d one place there.0 there.1
 taken_place d place (Err error) is there = absurd (false≢true is)
 
@@ -172,42 +172,42 @@ puts_none old new more files names = rw (files, names) (map_still old.files.item
 -- one more name of a file
 pub names_one : (old new : MemoryFiles) (one : MemoryName) (before : List MemoryName) → new.files ≡ old.files
     → IsPermutation (one ∷ before) new.names.items.items
-    → IsPermutation (file_of old.files.items one ∷ map (file_of old.files.items) before) (mail_files new)
+    → IsPermutation (file_named old.files.items one ∷ map (file_named old.files.items) before) (mail_files new)
 names_one old new one before files moved =
-    rw files (IsPermutation-map (file_of old.files.items) (one ∷ before) new.names.items.items moved)
+    rw files (IsPermutation-map (file_named old.files.items) (one ∷ before) new.names.items.items moved)
 
 pub left_known : (d : MemoryFiles) (place : Folder × List ℕ) (left : List MemoryName)
-    → left ≡ filter (λ one. is_elsewhere place (place_of one)) d.names.items.items → HaveFiles (length d.files.items) left
+    → left ≡ filter (λ one. is_elsewhere place (place_of_name one)) d.names.items.items → HaveFiles (length d.files.items) left
 left_known d place left is = subst (HaveFiles (length d.files.items)) (sym is)
-    (All-filter (λ one. is_elsewhere place (place_of one)) (λ one. one.file < length d.files.items) d.names.items.items (now_known d))
+    (All-filter (λ one. is_elsewhere place (place_of_name one)) (λ one. one.file < length d.files.items) d.names.items.items (now_known d))
 
 -- a name that isn't added to those that are left
 refused_left : (names left : List MemoryName) (place : Folder × List ℕ) (kind : ErrorKind) → All (Contains names) left
-    → RefusesName (map place_of left) place kind → RefusesName (map place_of names) place kind
+    → RefusesName (map place_of_name left) place kind → RefusesName (map place_of_name names) place kind
 refused_left names left place kind among (inl taken) = inl (
   taken.0,
-  All-contains (Contains (map place_of names)) (map place_of left) place
-      (All-map (Contains (map place_of names)) place_of left
-      (λ k d within. contains_map place_of names (get_or left k d) (among k d within)))
+  All-contains (Contains (map place_of_name names)) (map place_of_name left) place
+      (All-map (Contains (map place_of_name names)) place_of_name left
+      (λ k d within. contains_map place_of_name names (get_or left k d) (among k d within)))
       taken.1,
 )
 refused_left names left place kind among (inr other) = inr other
 
 pub refuses_left : (d : MemoryFiles) (from place : Folder × List ℕ) (left : List MemoryName) (kind : ErrorKind)
-    → left ≡ filter (λ one. is_elsewhere from (place_of one)) d.names.items.items → RefusesName (map place_of left) place kind
+    → left ≡ filter (λ one. is_elsewhere from (place_of_name one)) d.names.items.items → RefusesName (map place_of_name left) place kind
     → RefusesName (map file_place (mail_files d)) place kind
 refuses_left d from place left kind is refused = refuses_place d place kind
     (refused_left d.names.items.items left place kind (subst (All (Contains d.names.items.items)) (sym is)
-    (All-filter (λ one. is_elsewhere from (place_of one)) (Contains d.names.items.items) d.names.items.items
+    (All-filter (λ one. is_elsewhere from (place_of_name one)) (Contains d.names.items.items) d.names.items.items
     (All-contains_itself d.names.items.items))) refused)
 
 -- ---- calls
 
 pub has_file : (d : MemoryFiles) (way : FileWay) (one : MemoryName) (what : Found) → Contains d.names.items.items one
-    → place_of one ≡ (way.folder, string_bytes way.name) → what ≡ found_at d.files.items one.file → HasFile (mail_files d) way what
+    → place_of_name one ≡ (way.folder, string_bytes way.name) → what ≡ found_at d.files.items one.file → HasFile (mail_files d) way what
 has_file d way one what there place is = record {
-  file = file_of d.files.items one;
-  there = contains_map (file_of d.files.items) d.names.items.items one there;
+  file = file_named d.files.items one;
+  there = contains_map (file_named d.files.items) d.names.items.items one there;
   leads = (sym (ap (λ (p : Folder × List ℕ). p.0) place), sym (ap (λ (p : Folder × List ℕ). p.1) place));
   regular = ap (λ (f : Found). f.is_regular) is;
   number = ap (λ (f : Found). f.number) is;
@@ -215,8 +215,8 @@ has_file d way one what there place is = record {
 }
 
 pub nothing_bears : (d : MemoryFiles) (way : FileWay)
-    → All (λ one. place_of one ≢ (way.folder, string_bytes way.name)) d.names.items.items → Bears (mail_files d) way None
-nothing_bears d way none = All-map (λ (file : DropFile). IsWayTo way (file_place file) → ⊥) (file_of d.files.items) d.names.items.items
+    → All (λ one. place_of_name one ≢ (way.folder, string_bytes way.name)) d.names.items.items → Bears (mail_files d) way None
+nothing_bears d way none = All-map (λ (file : DropFile). IsWayTo way (file_place file) → ⊥) (file_named d.files.items) d.names.items.items
     (λ k d within leads. none k d within (sym (rw (leads.0, leads.1) refl)))
 
 pub octets_of : (files : List MemoryFile) (k : ℕ) (file : MemoryFile) → k < length files → file ≡ get_or files k file
@@ -245,7 +245,7 @@ stays_or_has way file true e =
     inr (ap (λ (p : Folder × List ℕ). p.0) same, ap (λ (p : Folder × List ℕ). p.1) same)
 
 pub takes_named_one : (way : FileWay) (old new : List DropFile) (result : Result Unit Error)
-    → Takes (way.folder, string_bytes way.name) old result new → LacksSome (Has way) old new
+    → TakesName (way.folder, string_bytes way.name) old result new → LacksSome (Has way) old new
 takes_named_one way old new (Ok done) takes = (
   λ file. is_elsewhere (way.folder, string_bytes way.name) (file_place file),
   takes.1,
@@ -262,7 +262,7 @@ named_gone way old new is = λ k d within leads.
     not_true (is_in_place place file) (is_at_place place file leads.0 leads.1) left
 
 pub gone_if : (way : FileWay) (old new : List DropFile) (result : Result Unit Error)
-    → Takes (way.folder, string_bytes way.name) old result new → IfOk result (λ _. Bears new way None)
+    → TakesName (way.folder, string_bytes way.name) old result new → IfOk result (λ _. Bears new way None)
 gone_if way old new (Ok done) takes = named_gone way old new takes.1
 gone_if way old new (Err error) takes = tt
 

@@ -20,7 +20,7 @@ use Rattle.std.{
 use Rattle.folder_drop.specs.{
   declared.{maildir_names.{Folder.{Folder, TheVariants.{Cur, New}}, PlacedFile.PlacedFile}, memory_names.MemoryName.MemoryName},
   MemoryLaws.differ,
-  MemoryNames.{AreAscendingPlaces, is_elsewhere, place_of},
+  MemoryNames.{AreAscendingPlaces, is_elsewhere, place_of_name},
   Places.{AreInOrder, folder_and_name, places_cmp, places_total, rank},
 }
 use Rattle.folder_drop.proofs.{MailLemmas.same_pair, SeenLemmas.equal_from_cmp}
@@ -69,49 +69,49 @@ index_rises x y p less Greater e =
 in_both : {A : Type 0} (R : A → A → Type 0) (a b c d : A) → a ≡ c → b ≡ d → R a b → R c d
 in_both R a b c d e f r = subst (λ x. R x d) e (subst (λ y. R a y) f r)
 
-less_at : (names : List MemoryName) → AreAscendingPlaces (map place_of names) → (i j : ℕ) (d : MemoryName) → i < j → j < length names
-    → places_cmp (place_of (get_or names i d)) (place_of (get_or names j d)) ≡ Less
+less_at : (names : List MemoryName) → AreAscendingPlaces (map place_of_name names) → (i j : ℕ) (d : MemoryName) → i < j → j < length names
+    → places_cmp (place_of_name (get_or names i d)) (place_of_name (get_or names j d)) ≡ Less
 less_at names ascending i j d lt within =
-    let long = length-map names place_of in
-    in_both (λ a b. places_cmp a b ≡ Less) _ _ _ _ (get_or-map place_of names i d) (get_or-map place_of names j d)
-    (ascending i j (place_of d) lt (omega (arith, long, within)))
+    let long = length-map names place_of_name in
+    in_both (λ a b. places_cmp a b ≡ Less) _ _ _ _ (get_or-map place_of_name names i d) (get_or-map place_of_name names j d)
+    (ascending i j (place_of_name d) lt (omega (arith, long, within)))
 
-rises : (names : List MemoryName) (place : Folder × List ℕ) → AreAscendingPlaces (map place_of names)
-    → IsNonDecreasingBy (λ one. ordering_index (places_cmp (place_of one) place)) names
+rises : (names : List MemoryName) (place : Folder × List ℕ) → AreAscendingPlaces (map place_of_name names)
+    → IsNonDecreasingBy (λ one. ordering_index (places_cmp (place_of_name one) place)) names
 rises names place ascending = λ i j d le within. ⊎_elim
-    (λ (lt : i < j). index_rises (place_of (get_or names i d)) (place_of (get_or names j d)) place
-    (less_at names ascending i j d lt within) (places_cmp (place_of (get_or names j d)) place) refl)
+    (λ (lt : i < j). index_rises (place_of_name (get_or names i d)) (place_of_name (get_or names j d)) place
+    (less_at names ascending i j d lt within) (places_cmp (place_of_name (get_or names j d)) place) refl)
     (λ (ge : j ≤ i). let same : i ≡ j = omega (arith, le, ge) in
-    let e = ap (λ (k : ℕ). ordering_index (places_cmp (place_of (get_or names k d)) place)) same in omega (arith, e))
+    let e = ap (λ (k : ℕ). ordering_index (places_cmp (place_of_name (get_or names k d)) place)) same in omega (arith, e))
     (cases_lt i j)
 
 module _ (names : List MemoryName) (place : Folder × List ℕ) where
   pub is_found : (r : Result ℕ ℕ) → IsSearchInRange r (length names)
-      → IsBinarySearchResult (λ one. places_cmp (place_of one) place) names r
-      → IfOk r (λ at. (at < length names) × HoldsAt (λ one. place_of one ≡ place) names at)
-  is_found (Ok at) range is = (range, λ d. equal_places (place_of (get_or names at d)) place (is d))
+      → IsBinarySearchResult (λ one. places_cmp (place_of_name one) place) names r
+      → IfOk r (λ at. (at < length names) × HoldsAt (λ one. place_of_name one ≡ place) names at)
+  is_found (Ok at) range is = (range, λ d. equal_places (place_of_name (get_or names at d)) place (is d))
   is_found (Err at) range is = tt
 
-  pub is_between : AreAscendingPlaces (map place_of names) → (r : Result ℕ ℕ) → IsSearchInRange r (length names)
-      → IsBinarySearchResult (λ one. places_cmp (place_of one) place) names r
-      → IfErr r (λ at. (at ≤ length names) × IsPartitionPoint (λ one. places_cmp (place_of one) place ≡ Less)
-      (λ one. places_cmp (place_of one) place ≡ Greater) names at)
+  pub is_between : AreAscendingPlaces (map place_of_name names) → (r : Result ℕ ℕ) → IsSearchInRange r (length names)
+      → IsBinarySearchResult (λ one. places_cmp (place_of_name one) place) names r
+      → IfErr r (λ at. (at ≤ length names) × IsPartitionPoint (λ one. places_cmp (place_of_name one) place ≡ Less)
+      (λ one. places_cmp (place_of_name one) place ≡ Greater) names at)
   is_between ascending (Ok at) range is = tt
   is_between ascending (Err at) range is = (range, is (rises names place ascending))
 
-  pub none_there : (at : ℕ) → IsPartitionPoint (λ one. places_cmp (place_of one) place ≡ Less)
-      (λ one. places_cmp (place_of one) place ≡ Greater) names at → All (λ one. place_of one ≢ place) names
+  pub none_there : (at : ℕ) → IsPartitionPoint (λ one. places_cmp (place_of_name one) place ≡ Less)
+      (λ one. places_cmp (place_of_name one) place ≡ Greater) names at → All (λ one. place_of_name one ≢ place) names
   none_there at parted = λ k d within. ⊎_elim
-      (λ (lt : k < at). differ (place_of (get_or names k d)) place (parted.0 k d (omega arith) lt))
-      (λ (ge : at ≤ k). λ same. differ place (place_of (get_or names k d))
-      (turned (place_of (get_or names k d)) place Greater (parted.1 k d ge within)) (sym same))
+      (λ (lt : k < at). differ (place_of_name (get_or names k d)) place (parted.0 k d (omega arith) lt))
+      (λ (ge : at ≤ k). λ same. differ place (place_of_name (get_or names k d))
+      (turned (place_of_name (get_or names k d)) place Greater (parted.1 k d ge within)) (sym same))
       (cases_lt k at)
 
 pub has_place : (names : List MemoryName) (place : Folder × List ℕ) (d : MemoryName) (at : ℕ) → at < length names
-    → HoldsAt (λ one. place_of one ≡ place) names at → Contains (map place_of names) place
+    → HoldsAt (λ one. place_of_name one ≡ place) names at → Contains (map place_of_name names) place
 has_place names place d at within is =
-    let long = length-map names place_of in
-    (at, omega (arith, long, within), get_or-map_any place_of names at d place within ∙ is d)
+    let long = length-map names place_of_name in
+    (at, omega (arith, long, within), get_or-map_any place_of_name names at d place within ∙ is d)
 
 -- ---- one more name, and one less
 
@@ -135,12 +135,12 @@ AllPairs-insert f R (x ∷ xs) (suc i) y all low high =
     (λ k d from within. low (suc k) d (omega arith) (omega (arith, within)))
     (λ k d from within. high (suc k) d (omega (arith, from)) (omega (arith, within))))
 
-pub ascends_with : (names : List MemoryName) (at : ℕ) (one : MemoryName) → AreAscendingPlaces (map place_of names)
-    → IsPartitionPoint (λ other. places_cmp (place_of other) (place_of one) ≡ Less)
-    (λ other. places_cmp (place_of other) (place_of one) ≡ Greater) names at
-    → AreAscendingPlaces (map place_of (insert names at one))
-ascends_with names at one ascending parted = AllPairs-insert place_of (λ a b. places_cmp a b ≡ Less) names at one ascending parted.0
-    (λ k d from within. turned (place_of (get_or names k d)) (place_of one) Greater (parted.1 k d from within))
+pub ascends_with : (names : List MemoryName) (at : ℕ) (one : MemoryName) → AreAscendingPlaces (map place_of_name names)
+    → IsPartitionPoint (λ other. places_cmp (place_of_name other) (place_of_name one) ≡ Less)
+    (λ other. places_cmp (place_of_name other) (place_of_name one) ≡ Greater) names at
+    → AreAscendingPlaces (map place_of_name (insert names at one))
+ascends_with names at one ascending parted = AllPairs-insert place_of_name (λ a b. places_cmp a b ≡ Less) names at one ascending parted.0
+    (λ k d from within. turned (place_of_name (get_or names k d)) (place_of_name one) Greater (parted.1 k d from within))
 
 cond_map : {X Y : Type 0} (f : X → Y) (b : Bool) (x : X) (xs : List X) (ys : List Y) → map f xs ≡ ys
     → map f (cond b (x ∷ xs) xs) ≡ cond b (f x ∷ ys) ys
@@ -151,10 +151,10 @@ pub map-filter : {X Y : Type 0} (f : X → Y) (q : Y → Bool) (xs : List X) →
 map-filter f q [] = refl
 map-filter f q (x ∷ xs) = cond_map f (q (f x)) x (filter (λ z. q (f z)) xs) (filter q (map f xs)) (map-filter f q xs)
 
-pub ascends_without : (names : List MemoryName) (place : Folder × List ℕ) → AreAscendingPlaces (map place_of names)
-    → AreAscendingPlaces (map place_of (filter (λ one. is_elsewhere place (place_of one)) names))
-ascends_without names place ascending = subst AreAscendingPlaces (sym (map-filter place_of (is_elsewhere place) names))
-    (AllPairs-filter (λ a b. places_cmp a b ≡ Less) (is_elsewhere place) (map place_of names) ascending)
+pub ascends_without : (names : List MemoryName) (place : Folder × List ℕ) → AreAscendingPlaces (map place_of_name names)
+    → AreAscendingPlaces (map place_of_name (filter (λ one. is_elsewhere place (place_of_name one)) names))
+ascends_without names place ascending = subst AreAscendingPlaces (sym (map-filter place_of_name (is_elsewhere place) names))
+    (AllPairs-filter (λ a b. places_cmp a b ≡ Less) (is_elsewhere place) (map place_of_name names) ascending)
 
 -- ---- a listing
 

@@ -32,8 +32,8 @@ found_at files file = record {
 }
 
 -- what has a name
-abbrev pub file_of : List MemoryFile → MemoryName → DropFile
-file_of files one = record {
+abbrev pub file_named : List MemoryFile → MemoryName → DropFile
+file_named files one = record {
   folder = one.folder;
   name = one.name.now;
   is_regular = (found_at files one.file).is_regular;
@@ -44,7 +44,7 @@ file_of files one = record {
 
 -- what is there now
 abbrev pub mail_files : MemoryFiles → List DropFile
-mail_files d = map (file_of d.files.items) d.names.items.items
+mail_files d = map (file_named d.files.items) d.names.items.items
 
 -- the names after so many changes
 abbrev pub names_after : ℕ → MemoryFiles → List MemoryName
@@ -54,7 +54,7 @@ names_after changes d =
 -- these files were there at a look, whose time of change shows after how many changes it was
 abbrev pub HasLooked : MemoryFiles → FoldersLook → List DropFile → Type 0
 HasLooked d look was = (changes : ℕ) × (changes ≤ length d.past.items) × (look.new.nanoseconds ≡ pos changes)
-    × (was ≡ map (file_of d.files.items) (names_after changes d))
+    × (was ≡ map (file_named d.files.items) (names_after changes d))
 
 -- what was known of looks is known still
 abbrev pub StaysLooked : MemoryFiles → MemoryFiles → Type 0
@@ -66,14 +66,14 @@ IsHandle d handle = (file : ℕ) × (handle.found ≡ found_at d.files.items fil
     × (handle.rest.now ≡ octets_at d.files.items file)
 
 -- what has a name was opened; or nothing has it
-abbrev pub Finds : MemoryFiles → FileWay → Result MemoryHandle Error → Type 0
-Finds d way (Ok handle) = HasFile (mail_files d) way handle.found × IsHandle d handle
-Finds d way (Err error) = (error_kind error ≡ NotFound) × Bears (mail_files d) way None
+abbrev pub FindsNamed : MemoryFiles → FileWay → Result MemoryHandle Error → Type 0
+FindsNamed d way (Ok handle) = HasFile (mail_files d) way handle.found × IsHandle d handle
+FindsNamed d way (Err error) = (error_kind error ≡ NotFound) × Bears (mail_files d) way None
 
 -- ---- what others do
 
-abbrev pub place_in : Folder × Bor (List ℕ) → Folder × List ℕ
-place_in place = (place.0, place.1.now)
+abbrev pub place_given : Folder × Bor (List ℕ) → Folder × List ℕ
+place_given place = (place.0, place.1.now)
 
 -- a file with these octets, of a number that none had yet
 abbrev pub file_put : MemoryFiles → Folder × List ℕ → Bool → List ℕ → DropFile
@@ -99,26 +99,26 @@ abbrev pub LacksName : Folder × List ℕ → List DropFile → ErrorKind → Ty
 LacksName place files kind = (kind ≡ NotFound) × All (λ file. file_place file ≢ place) files
 
 -- a file came
-abbrev pub Puts : DropFile → List DropFile → Result Unit Error → List DropFile → Type 0
-Puts file old (Ok done) new = IsPermutation (file ∷ old) new
-Puts file old (Err error) new = (new ≡ old) × RefusesName (map file_place old) (file_place file) (error_kind error)
+abbrev pub PutsName : DropFile → List DropFile → Result Unit Error → List DropFile → Type 0
+PutsName file old (Ok done) new = IsPermutation (file ∷ old) new
+PutsName file old (Err error) new = (new ≡ old) × RefusesName (map file_place old) (file_place file) (error_kind error)
 
 -- a file got a second name
-abbrev pub Links : Folder × List ℕ → Folder × List ℕ → List DropFile → Result Unit Error → List DropFile → Type 0
-Links from to old (Ok done) new = (file : DropFile) × Contains old file × (file_place file ≡ from)
+abbrev pub LinksName : Folder × List ℕ → Folder × List ℕ → List DropFile → Result Unit Error → List DropFile → Type 0
+LinksName from to old (Ok done) new = (file : DropFile) × Contains old file × (file_place file ≡ from)
     × IsPermutation (named to file ∷ old) new
-Links from to old (Err error) new = (new ≡ old)
+LinksName from to old (Err error) new = (new ≡ old)
     × (LacksName from old (error_kind error) ⊎ RefusesName (map file_place old) to (error_kind error))
 
 -- a file got another name
-abbrev pub Renames : Folder × List ℕ → Folder × List ℕ → List DropFile → Result Unit Error → List DropFile → Type 0
-Renames from to old (Ok done) new = (file : DropFile) × Contains old file × (file_place file ≡ from)
+abbrev pub RenamesName : Folder × List ℕ → Folder × List ℕ → List DropFile → Result Unit Error → List DropFile → Type 0
+RenamesName from to old (Ok done) new = (file : DropFile) × Contains old file × (file_place file ≡ from)
     × IsPermutation (named to file ∷ elsewhere from old) new
-Renames from to old (Err error) new = (new ≡ old)
+RenamesName from to old (Err error) new = (new ≡ old)
     × (LacksName from old (error_kind error) ⊎ RefusesName (map file_place old) to (error_kind error))
 
 -- a name was taken away
-abbrev pub Takes : Folder × List ℕ → List DropFile → Result Unit Error → List DropFile → Type 0
-Takes from old (Ok done) new = Contains (map file_place old) from × (new ≡ elsewhere from old)
-Takes from old (Err error) new = (new ≡ old)
+abbrev pub TakesName : Folder × List ℕ → List DropFile → Result Unit Error → List DropFile → Type 0
+TakesName from old (Ok done) new = Contains (map file_place old) from × (new ≡ elsewhere from old)
+TakesName from old (Err error) new = (new ≡ old)
     × (LacksName from old (error_kind error) ⊎ (error_kind error ≡ OutOfMemory))

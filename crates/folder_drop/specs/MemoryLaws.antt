@@ -21,8 +21,8 @@ use Rattle.folder_drop.specs.{
   },
   FoldersLook.IsUnchanged,
   MailFiles.{AreMailFiles, DropFile, file_place},
-  MemoryFiles.{HasLooked, file_of, mail_files, names_after, octets_at},
-  MemoryNames.{AreAscendingPlaces, place_of},
+  MemoryFiles.{HasLooked, file_named, mail_files, names_after, octets_at},
+  MemoryNames.{AreAscendingPlaces, place_of_name},
   Places.{places_cmp, places_total},
 }
 
@@ -35,20 +35,20 @@ distinct_places : (places : List (Folder × List ℕ)) → AreAscendingPlaces pl
 distinct_places places ascending = λ i j d lt within.
     differ (slice_index_or places i d) (slice_index_or places j d) (ascending i j d lt within)
 
-pub places : (d : MemoryFiles) → map file_place (mail_files d) ≡ map place_of d.names.items.items
-places d = map-map file_place (file_of d.files.items) d.names.items.items
+pub places : (d : MemoryFiles) → map file_place (mail_files d) ≡ map place_of_name d.names.items.items
+places d = map-map file_place (file_named d.files.items) d.names.items.items
 
 pub content_by_number : (files : List MemoryFile) (names : List MemoryName) (file : DropFile)
-    → Contains (map (file_of files) names) file → file.content ≡ octets_at files file.number.inode
+    → Contains (map (file_named files) names) file → file.content ≡ octets_at files file.number.inode
 content_by_number files names file there =
     let P : DropFile → Type 0 = λ f. f.content ≡ octets_at files f.number.inode in
-    All-contains P (map (file_of files) names) file (All-map P (file_of files) names (λ k d within. refl)) there
+    All-contains P (map (file_named files) names) file (All-map P (file_named files) names (λ k d within. refl)) there
 
 content_by_stamp : (files : List MemoryFile) (names : List MemoryName) (file : DropFile)
-    → Contains (map (file_of files) names) file → file.content ≡ octets_at files file.stamp.seconds
+    → Contains (map (file_named files) names) file → file.content ≡ octets_at files file.stamp.seconds
 content_by_stamp files names file there =
     let P : DropFile → Type 0 = λ f. f.content ≡ octets_at files f.stamp.seconds in
-    All-contains P (map (file_of files) names) file (All-map P (file_of files) names (λ k d within. refl)) there
+    All-contains P (map (file_named files) names) file (All-map P (file_named files) names (λ k d within. refl)) there
 
 pub keeps_content : (d : MemoryFiles) (look : FoldersLook) (was : List DropFile) (file before : DropFile)
     → HasLooked d look was → Contains (mail_files d) file → Contains was before → file.stamp ≡ before.stamp
@@ -63,11 +63,12 @@ pub rests_so : (d : MemoryFiles) (earlier later : FoldersLook) (was now : List D
     → HasLooked d later now → IsUnchanged earlier later → was ≡ now
 rests_so d earlier later was now one other same =
     let e : pos one.0 ≡ pos other.0 = sym one.2 ∙ sym (ap (λ t. t.nanoseconds) same.new_same) ∙ other.2 in
-    one.3 ∙ ap (λ (k : ℕ). map (file_of d.files.items) (names_after k d)) (ap unsigned_abs e) ∙ sym other.3
+    one.3 ∙ ap (λ (k : ℕ). map (file_named d.files.items) (names_after k d)) (ap unsigned_abs e) ∙ sym other.3
 
 pub keeps_whole : (d : MemoryFiles) → AreMailFiles (mail_files d)
 keeps_whole d = record {
-  distinct = subst AreDistinct (sym (places d)) (distinct_places (map place_of d.names.items.items) d.names.ascending);
+  distinct = subst AreDistinct (sym (places d))
+      (distinct_places (map place_of_name d.names.items.items) d.names.ascending);
   one = λ a b there here same. let files = d.files.items in
       content_by_number files d.names.items.items a there ∙ ap (λ (n : FileNumber). octets_at files n.inode) same
       ∙ sym (content_by_number files d.names.items.items b here);

@@ -12,8 +12,8 @@ use Rattle.folder_drop.specs.{
 }
 
 -- where a name is
-abbrev pub place_of : MemoryName → Folder × List ℕ
-place_of one = (one.folder, one.name.now)
+abbrev pub place_of_name : MemoryName → Folder × List ℕ
+place_of_name one = (one.folder, one.name.now)
 
 -- it is another place than this one
 abbrev pub is_elsewhere : Folder × List ℕ → Folder × List ℕ → Bool

@@ -58,8 +58,8 @@ pub struct MemoryFiles<'a> {
 
 impl<'a> MemoryFiles<'a> {
     ghost use Rattle.std.specs.Prelude.{◌+◌, ◌-◌, ◌^◌, false, min, true};
-    ghost use Rattle.folder_drop.specs.MemoryFiles.{Finds, Links, Puts, Renames, StaysLooked, Takes};
-    ghost use Rattle.folder_drop.specs.MemoryFiles.{file_put, found_at, mail_files, place_in};
+    ghost use Rattle.folder_drop.specs.MemoryFiles.{FindsNamed, LinksName, PutsName, RenamesName, StaysLooked};
+    ghost use Rattle.folder_drop.specs.MemoryFiles.{TakesName, file_put, found_at, mail_files, place_given};
 
     /// An empty Maildir.
     pub fn new(alloc: Global, hasher: RandomState) -> MemoryFiles<'a>
@@ -93,7 +93,7 @@ impl<'a> MemoryFiles<'a> {
 
     /// A file comes under a name.
     fn add(&mut self, folder: Folder, name: &'a str, file: MemoryFile<'a>) -> io::Result<()>
-        ensures puts { Puts (file_put self.old (folder, name.now) file.entry.is_regular file.entry.content.now)
+        ensures puts { PutsName (file_put self.old (folder, name.now) file.entry.is_regular file.entry.content.now)
             (mail_files self.old) result (mail_files self.new) }
         ensures stays { StaysLooked self.old self.new }
     {
@@ -110,7 +110,7 @@ impl<'a> MemoryFiles<'a> {
 
     /// A file with these octets comes under a name. AlreadyExists if something has it.
     pub fn put(&mut self, folder: Folder, name: &'a str, content: &'a [u8]) -> io::Result<()>
-        ensures puts { Puts (file_put self.old (folder, name.now) true content.now)
+        ensures puts { PutsName (file_put self.old (folder, name.now) true content.now)
             (mail_files self.old) result (mail_files self.new) }
         ensures stays { StaysLooked self.old self.new }
     {
@@ -123,7 +123,7 @@ impl<'a> MemoryFiles<'a> {
 
     /// What is no regular file comes under a name. AlreadyExists if something has it.
     pub fn put_other(&mut self, folder: Folder, name: &'a str) -> io::Result<()>
-        ensures puts { Puts (file_put self.old (folder, name.now) false [])
+        ensures puts { PutsName (file_put self.old (folder, name.now) false [])
             (mail_files self.old) result (mail_files self.new) }
         ensures stays { StaysLooked self.old self.new }
     {
@@ -137,7 +137,7 @@ impl<'a> MemoryFiles<'a> {
     /// link(2): a file gets a second name. NotFound if nothing has the first, AlreadyExists if something has the
     /// second.
     pub fn link(&mut self, from: (Folder, &str), to: (Folder, &'a str)) -> io::Result<()>
-        ensures links { Links (place_in from.entry) (place_in to.entry) (mail_files self.old) result
+        ensures links { LinksName (place_given from.entry) (place_given to.entry) (mail_files self.old) result
             (mail_files self.new) }
         ensures stays { StaysLooked self.old self.new }
     {
@@ -155,7 +155,7 @@ impl<'a> MemoryFiles<'a> {
     /// rename(2), to a name that nothing has. NotFound if nothing has the first, AlreadyExists if something has the
     /// second.
     pub fn rename(&mut self, from: (Folder, &str), to: (Folder, &'a str)) -> io::Result<()>
-        ensures renames { Renames (place_in from.entry) (place_in to.entry) (mail_files self.old) result
+        ensures renames { RenamesName (place_given from.entry) (place_given to.entry) (mail_files self.old) result
             (mail_files self.new) }
         ensures stays { StaysLooked self.old self.new }
     {
@@ -176,7 +176,7 @@ impl<'a> MemoryFiles<'a> {
 
     /// A name is taken away. NotFound if nothing has it.
     pub fn take(&mut self, from: (Folder, &str)) -> io::Result<()>
-        ensures takes { Takes (place_in from.entry) (mail_files self.old) result (mail_files self.new) }
+        ensures takes { TakesName (place_given from.entry) (mail_files self.old) result (mail_files self.new) }
         ensures stays { StaysLooked self.old self.new }
     {
         self.names.find(from.0, from.1)?;
@@ -219,7 +219,7 @@ impl<'a> MemoryFiles<'a> {
 
     /// What has a name, opened.
     fn opened(&self, way: &FileWay) -> io::Result<MemoryHandle<'a>>
-        ensures { Finds self.now way.now result }
+        ensures { FindsNamed self.now way.now result }
     {
         let MemoryName { file, .. } = self.names.find(way.folder, way.name.as_str())?;
         Ok(MemoryHandle {

@@ -6,7 +6,7 @@ ghost use Rattle.std.specs.{
   declared.{cmp.Ordering.TheVariants.{Greater, Less}, io.ErrorKind.TheVariants.NotFound},
 };
 ghost use Rattle.folder_drop.specs.{
-  MemoryNames.{AreAscendingPlaces, RefusesName, is_elsewhere, place_of},
+  MemoryNames.{AreAscendingPlaces, RefusesName, is_elsewhere, place_of_name},
   Places.{folder_and_name, places_cmp},
 };
 
@@ -27,7 +27,7 @@ pub struct MemoryName<'a> {
 impl<'a> MemoryName<'a> {
     /// How its place is ordered beside another one, in the order of messages.
     fn cmp_place(&self, folder: Folder, name: &str) -> Ordering
-        ensures { result ≡ places_cmp (place_of self.now) (folder, name.now) }
+        ensures { result ≡ places_cmp (place_of_name self.now) (folder, name.now) }
     {
         let own = (
             base(self.name).as_bytes(),
@@ -39,7 +39,7 @@ impl<'a> MemoryName<'a> {
 
     /// Whether it is another one.
     fn is_elsewhere(&self, folder: Folder, name: &str) -> bool
-        ensures { result ≡ is_elsewhere (folder, name.now) (place_of self.now) }
+        ensures { result ≡ is_elsewhere (folder, name.now) (place_of_name self.now) }
     {
         self.folder != folder || self.name != name
     }
@@ -49,7 +49,7 @@ impl<'a> MemoryName<'a> {
 #[derive(Drop)]
 pub struct MemoryNames<'a> {
     items: Vec<MemoryName<'a>>,
-    ghost ascending: { AreAscendingPlaces (map place_of items.items) },
+    ghost ascending: { AreAscendingPlaces (map place_of_name items.items) },
 }
 
 impl<'a> MemoryNames<'a> {
@@ -65,23 +65,23 @@ impl<'a> MemoryNames<'a> {
     /// Where a name is, or how many come before it.
     fn search(&self, folder: Folder, name: &str) -> Result<usize, usize>
         ensures found { IfOk result (λ at. (at < length self.now.items.items)
-            × HoldsAt (λ one. place_of one ≡ (folder, name.now)) self.now.items.items at) }
+            × HoldsAt (λ one. place_of_name one ≡ (folder, name.now)) self.now.items.items at) }
         ensures between { IfErr result (λ at. (at ≤ length self.now.items.items)
-            × IsPartitionPoint (λ one. places_cmp (place_of one) (folder, name.now) ≡ Less)
-            (λ one. places_cmp (place_of one) (folder, name.now) ≡ Greater) self.now.items.items at) }
+            × IsPartitionPoint (λ one. places_cmp (place_of_name one) (folder, name.now) ≡ Less)
+            (λ one. places_cmp (place_of_name one) (folder, name.now) ≡ Greater) self.now.items.items at) }
     {
         self.items.binary_search_by(
             |one|
-                ensures { result ≡ places_cmp (place_of one.entry.now) (folder, name.entry.now) }
+                ensures { result ≡ places_cmp (place_of_name one.entry.now) (folder, name.entry.now) }
             { one.cmp_place(folder, name) },
         )
     }
 
     /// Which file has a name.
     pub fn find(&self, folder: Folder, name: &str) -> io::Result<MemoryName<'a>>
-        ensures ok { IfOk result (λ one. Contains self.now.items.items one × (place_of one ≡ (folder, name.now))) }
+        ensures ok { IfOk result (λ one. Contains self.now.items.items one × (place_of_name one ≡ (folder, name.now))) }
         ensures err { IfErr result (λ error. (error_kind error ≡ NotFound)
-            × All (λ one. place_of one ≢ (folder, name.now)) self.now.items.items) }
+            × All (λ one. place_of_name one ≢ (folder, name.now)) self.now.items.items) }
     {
         match self.search(folder, name) {
             Ok(at) => Ok(self.items[at]),
@@ -93,7 +93,7 @@ impl<'a> MemoryNames<'a> {
     pub fn with(&self, alloc: Global, one: MemoryName<'a>) -> io::Result<MemoryNames<'a>>
         ensures ok { IfOk result (λ names. IsPermutation (one.entry ∷ self.now.items.items) names.items.items) }
         ensures err { IfErr result (λ error.
-            RefusesName (map place_of self.now.items.items) (place_of one.entry) (error_kind error)) }
+            RefusesName (map place_of_name self.now.items.items) (place_of_name one.entry) (error_kind error)) }
     {
         check_name(one.name)?;
         let Err(at) = self.search(one.folder, one.name) else {
@@ -112,7 +112,7 @@ impl<'a> MemoryNames<'a> {
         name: &str,
     ) -> Result<MemoryNames<'a>, AllocError>
         ensures { IfOk result (λ names. names.items.items
-            ≡ filter (λ one. is_elsewhere (folder, name.now) (place_of one)) self.now.items.items) }
+            ≡ filter (λ one. is_elsewhere (folder, name.now) (place_of_name one)) self.now.items.items) }
     {
         let mut items = Vec::new(alloc);
         for one in &self.items {
@@ -125,7 +125,7 @@ impl<'a> MemoryNames<'a> {
 
     /// A listing of them.
     pub fn listed(&self, alloc: Global) -> Result<Vec<PlacedFile>, AllocError>
-        ensures { IfOk result (λ files. map folder_and_name files.items ≡ map place_of self.now.items.items) }
+        ensures { IfOk result (λ files. map folder_and_name files.items ≡ map place_of_name self.now.items.items) }
     {
         let mut files = Vec::new(alloc);
         for one in &self.items {

@@ -2,7 +2,7 @@ use Rattle.std.{
   proofs.{Common.{◌<◌, ◌∷◌, inl, inr, length, refl, subst, sym}, lemmas.{List.Elements.All-contains, Result.err_from_is_err_and}},
   specs.List.Sorted.IsPermutation,
 }
-use Rattle.folder_drop.specs.{declared.memory_names.{MemoryName.MemoryName, MemoryNames.MemoryNames}, MemoryFiles.{file_of, place_in}}
+use Rattle.folder_drop.specs.{declared.memory_names.{MemoryName.MemoryName, MemoryNames.MemoryNames}, MemoryFiles.{file_named, place_given}}
 use Rattle.folder_drop.proofs.MemoryFilesLemmas.{contains_map, known_more, lacks_place, names_one, now_known, refuses_place}
 use Rattle.folder_drop.proofs.memory_files.MemoryFiles.link.Goals as goal
 
@@ -10,12 +10,12 @@ pub returns-in_err-file-clause-links : goal.returns-in_err-file-clause-links
 returns-in_err-file-clause-links c =
     let p = err_from_is_err_and c.from_residual.result c.from_residual.ensures.1 in
     let none = c.in_err-file.ensures.err in
-    rw (p.1, p.2) (refl, inl (lacks_place c.args.self.now (place_in c.args.from) _ none.0 none.1))
+    rw (p.1, p.2) (refl, inl (lacks_place c.args.self.now (place_given c.args.from) _ none.0 none.1))
 
 pub returns-in_err-names-clause-links : goal.returns-in_err-names-clause-links
 returns-in_err-names-clause-links c =
     let p = err_from_is_err_and c.from_residual-in_err-names.result c.from_residual-in_err-names.ensures.1 in
-    rw (p.1, p.2) (refl, inr (refuses_place c.args.self.now (place_in c.args.to) _ c.in_err-names.ensures.err))
+    rw (p.1, p.2) (refl, inr (refuses_place c.args.self.now (place_given c.args.to) _ c.in_err-names.ensures.err))
 
 pub change-requires : goal.change-requires
 change-requires c =
@@ -30,8 +30,8 @@ returns-clause-links c =
     let one = c.in_ok-file.field-0 in
     let new : MemoryName = record { folder = c.args.to.0; name = c.args.to.1; file = one.file } in
     let found = c.in_ok-file.ensures.ok in (
-      file_of d.files.items one,
-      contains_map (file_of d.files.items) d.names.items.items one found.0,
+      file_named d.files.items one,
+      contains_map (file_named d.files.items) d.names.items.items one found.0,
       found.1,
       names_one d c.change.new.self new d.names.items.items c.change.ensures.files
           (subst (λ (names : MemoryNames). IsPermutation (new ∷ d.names.items.items) names.items.items)

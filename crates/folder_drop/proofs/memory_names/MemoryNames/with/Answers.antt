@@ -1,12 +1,12 @@
 use Rattle.std.{proofs.{Common.{◌∙◌, inl}, lemmas.List.Sorted.IsPermutation-insert}}
-use Rattle.folder_drop.specs.MemoryNames.{place_of}
+use Rattle.folder_drop.specs.MemoryNames.{place_of_name}
 use Rattle.folder_drop.proofs.MemoryLemmas.{ascends_with, has_place}
 use Rattle.folder_drop.proofs.memory_names.MemoryNames.with.Goals as goal
 
 pub returns-in_default-clause-err : goal.returns-in_default-clause-err
 returns-in_default-clause-err c =
     let found = c.in_default.ensures.found in
-    inl (c.from.ensures, has_place c.args.self.now.items.items (place_of c.args.one) c.args.one c.in_default.field-0 found.0 found.1)
+    inl (c.from.ensures, has_place c.args.self.now.items.items (place_of_name c.args.one) c.args.one c.in_default.field-0 found.0 found.1)
 
 pub invariant_of-result : goal.invariant_of-result
 invariant_of-result c =
