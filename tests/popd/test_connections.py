@@ -10,6 +10,7 @@ import tempfile
 import threading
 import time
 import unittest
+from pathlib import Path
 
 from harness import kernel, programs, waits
 from harness.kernel import LOOPBACK
@@ -57,6 +58,22 @@ class Connections(OverLoopback):
             for _ in range(3):
                 self.check_good_client(service)
             self.assertEqual(service.finish(), (0, b""))
+
+    def opened_folders(self, service):
+        """The folders of the Maildir that the server has open, by their names."""
+        paths = [os.readlink(file) for file in Path(f"/proc/{service.process.pid}/fd").iterdir()]
+        return sorted(os.path.basename(path) for path in paths if os.path.dirname(path) == str(self.maildir.folder.resolve()))
+
+    def test_folders_are_closed_between_connections(self):
+        """Others may change the Maildir then."""
+        with Service(self.maildir) as service:
+            self.check_good_client(service)
+            with service.client() as client:
+                self.assertEqual(client.line(), READY)
+                self.assertEqual(self.opened_folders(service), [])
+                client.ask(b"USER u")
+                client.ask(b"PASS p")
+                self.assertEqual(self.opened_folders(service), ["cur", "new"])
 
     def test_a_server_that_is_stopped_and_goes_on(self):
         """The system interrupts its read, whose wait is bounded; the client sees nothing of it."""
