@@ -3,7 +3,7 @@ use Rattle.std.specs.{
   Borrow.Bor,
   IoError.error_kind,
   List.{Contains, Sorted.IsPermutation, filter},
-  Prelude.{◌≡◌, ◌≢◌, ◌⊎◌, ◌≤◌, ◌∷◌, ◌++◌, ℕ, Bool, false, List, [], Result, Ok, Err, None, All, length, map, pos},
+  Prelude.{◌≡◌, ◌≢◌, ◌⊎◌, ◌≤◌, ◌∷◌, ◌++◌, ℕ, Bool, false, true, List, [], Result, Ok, Err, None, All, length, map, pos},
   Prelude.slice_index_or,
   declared.io.{ErrorKind.{ErrorKind, TheVariants.{NotFound, OutOfMemory}}, Error.Error},
 }
@@ -15,6 +15,7 @@ use Rattle.folder_drop.specs.{
     memory_files.{MemoryFile.MemoryFile, MemoryFiles.MemoryFiles, MemoryHandle.MemoryHandle},
     memory_names.{MemoryName.MemoryName, MemoryNames.MemoryNames},
   },
+  MaildirNames.is_listable_name,
   MailFiles.{Bears, DropFile, HasFile, file_place},
   MemoryNames.{RefusesName, is_elsewhere},
 }
@@ -98,22 +99,26 @@ elsewhere place = filter (λ (file : DropFile). is_elsewhere place (file_place f
 abbrev pub LacksName : Folder × List ℕ → List DropFile → ErrorKind → Type 0
 LacksName place files kind = (kind ≡ NotFound) × All (λ file. file_place file ≢ place) files
 
+-- one more file is there, under a name that a listing may tell
+abbrev pub AddsFile : DropFile → List DropFile → List DropFile → Type 0
+AddsFile file old new = (is_listable_name file.name ≡ true) × IsPermutation (file ∷ old) new
+
 -- a file came
 abbrev pub PutsName : DropFile → List DropFile → Result Unit Error → List DropFile → Type 0
-PutsName file old (Ok done) new = IsPermutation (file ∷ old) new
+PutsName file old (Ok done) new = AddsFile file old new
 PutsName file old (Err error) new = (new ≡ old) × RefusesName (map file_place old) (file_place file) (error_kind error)
 
 -- a file got a second name
 abbrev pub LinksName : Folder × List ℕ → Folder × List ℕ → List DropFile → Result Unit Error → List DropFile → Type 0
 LinksName from to old (Ok done) new = (file : DropFile) × Contains old file × (file_place file ≡ from)
-    × IsPermutation (named to file ∷ old) new
+    × AddsFile (named to file) old new
 LinksName from to old (Err error) new = (new ≡ old)
     × (LacksName from old (error_kind error) ⊎ RefusesName (map file_place old) to (error_kind error))
 
 -- a file got another name
 abbrev pub RenamesName : Folder × List ℕ → Folder × List ℕ → List DropFile → Result Unit Error → List DropFile → Type 0
 RenamesName from to old (Ok done) new = (file : DropFile) × Contains old file × (file_place file ≡ from)
-    × IsPermutation (named to file ∷ elsewhere from old) new
+    × AddsFile (named to file) (elsewhere from old) new
 RenamesName from to old (Err error) new = (new ≡ old)
     × (LacksName from old (error_kind error) ⊎ RefusesName (map file_place old) to (error_kind error))
 

@@ -2,10 +2,11 @@
 ghost use Rattle.std.specs.{
   IoError.error_kind,
   List.{HoldsAt, Sorted.{IsPartitionPoint, IsPermutation}, filter},
-  Prelude.{◌≡◌, ◌≢◌, ◌≤◌, ◌<◌, ◌∷◌, [], All, Contains, IfErr, IfOk, length, map},
+  Prelude.{◌≡◌, ◌≢◌, ◌≤◌, ◌<◌, ◌∷◌, [], All, Contains, IfErr, IfOk, length, map, true},
   declared.{cmp.Ordering.TheVariants.{Greater, Less}, io.ErrorKind.TheVariants.NotFound},
 };
 ghost use Rattle.folder_drop.specs.{
+  MaildirNames.is_listable_name,
   MemoryNames.{AreAscendingPlaces, RefusesName, is_elsewhere, place_of_name},
   Places.{folder_and_name, places_cmp},
 };
@@ -91,7 +92,8 @@ impl<'a> MemoryNames<'a> {
 
     /// These and one more.
     pub fn with(&self, alloc: Global, one: MemoryName<'a>) -> io::Result<MemoryNames<'a>>
-        ensures ok { IfOk result (λ names. IsPermutation (one.entry ∷ self.now.items.items) names.items.items) }
+        ensures ok { IfOk result (λ names. (is_listable_name one.entry.name.now ≡ true)
+            × IsPermutation (one.entry ∷ self.now.items.items) names.items.items) }
         ensures err { IfErr result (λ error.
             RefusesName (map place_of_name self.now.items.items) (place_of_name one.entry) (error_kind error)) }
     {

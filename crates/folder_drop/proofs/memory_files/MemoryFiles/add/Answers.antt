@@ -22,7 +22,7 @@ change-requires c =
     known_more (length c.push.new.self.items) _ d.names.items.items c.in_ok-names.names.items.items
     (omega (arith, own, long, more, items))
     (All-weaker (λ one. one.file < length d.files.items) (λ one. one.file < length c.push.new.self.items)
-    (λ one lt. omega (arith, lt, more, items)) d.names.items.items (now_known d)) c.in_ok-names.ensures.ok
+    (λ one lt. omega (arith, lt, more, items)) d.names.items.items (now_known d)) c.in_ok-names.ensures.ok.1
 
 pub returns-in_err-change-clause-puts : goal.returns-in_err-change-clause-puts
 returns-in_err-change-clause-puts c =
@@ -43,10 +43,12 @@ pub returns-clause-puts : goal.returns-clause-puts
 returns-clause-puts c =
     let d = c.args.self.now in
     let files = ap (λ v. v.items) c.change.ensures.files ∙ c.in_ok-push.ensures.items in
-    let new : MemoryName = record { folder = c.args.folder; name = c.args.name; file = c.len.result } in
-    puts_one d c.change.new.self new c.args.file (c.len.ensures ∙ d.files.ok.0) files
-    (subst (λ (names : MemoryNames). IsPermutation (new ∷ d.names.items.items) names.items.items)
-    (sym c.in_ok-change.ensures.ok) c.in_ok-names.ensures.ok)
+    let new : MemoryName = record { folder = c.args.folder; name = c.args.name; file = c.len.result } in (
+      c.in_ok-names.ensures.ok.0,
+      puts_one d c.change.new.self new c.args.file (c.len.ensures ∙ d.files.ok.0) files
+          (subst (λ (names : MemoryNames). IsPermutation (new ∷ d.names.items.items) names.items.items)
+          (sym c.in_ok-change.ensures.ok) c.in_ok-names.ensures.ok.1),
+    )
 
 pub returns-clause-stays : goal.returns-clause-stays
 returns-clause-stays c =

@@ -22,7 +22,7 @@ change-requires c =
     let d = c.args.self.now in
     known_more (length d.files.items) _ d.names.items.items c.in_ok-names.names.items.items
     (All-contains (λ one. one.file < length d.files.items) d.names.items.items c.in_ok-file.field-0 (now_known d) c.in_ok-file.ensures.ok.0)
-    (now_known d) c.in_ok-names.ensures.ok
+    (now_known d) c.in_ok-names.ensures.ok.1
 
 pub returns-clause-links : goal.returns-clause-links
 returns-clause-links c =
@@ -33,7 +33,10 @@ returns-clause-links c =
       file_named d.files.items one,
       contains_map (file_named d.files.items) d.names.items.items one found.0,
       found.1,
-      names_one d c.change.new.self new d.names.items.items c.change.ensures.files
-          (subst (λ (names : MemoryNames). IsPermutation (new ∷ d.names.items.items) names.items.items)
-          (sym c.in_ok-change.ensures.ok) c.in_ok-names.ensures.ok),
+      (
+        c.in_ok-names.ensures.ok.0,
+        names_one d c.change.new.self new d.names.items.items c.change.ensures.files
+            (subst (λ (names : MemoryNames). IsPermutation (new ∷ d.names.items.items) names.items.items)
+            (sym c.in_ok-change.ensures.ok) c.in_ok-names.ensures.ok.1),
+      ),
     )

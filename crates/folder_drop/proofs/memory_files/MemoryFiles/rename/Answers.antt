@@ -40,7 +40,7 @@ change-requires c =
     let d = c.args.self.now in
     known_more (length d.files.items) _ c.in_ok-others.others.items.items c.in_ok-names.names.items.items
     (All-contains (λ one. one.file < length d.files.items) d.names.items.items c.in_ok-file.field-0 (now_known d) c.in_ok-file.ensures.ok.0)
-    (left_known d (place_given c.args.from) c.in_ok-others.others.items.items c.in_ok-others.ensures) c.in_ok-names.ensures.ok
+    (left_known d (place_given c.args.from) c.in_ok-others.others.items.items c.in_ok-others.ensures) c.in_ok-names.ensures.ok.1
 
 pub returns-clause-renames : goal.returns-clause-renames
 returns-clause-renames c =
@@ -52,9 +52,12 @@ returns-clause-renames c =
       file_named d.files.items one,
       contains_map (file_named d.files.items) d.names.items.items one found.0,
       found.1,
-      subst (λ l. IsPermutation (file_named d.files.items new ∷ l) (mail_files c.change.new.self))
-          (without_place d (place_given c.args.from) others c.in_ok-others.ensures)
-          (names_one d c.change.new.self new others c.change.ensures.files
-          (subst (λ (names : MemoryNames). IsPermutation (new ∷ others) names.items.items) (sym c.in_ok-change.ensures.ok)
-          c.in_ok-names.ensures.ok)),
+      (
+        c.in_ok-names.ensures.ok.0,
+        subst (λ l. IsPermutation (file_named d.files.items new ∷ l) (mail_files c.change.new.self))
+            (without_place d (place_given c.args.from) others c.in_ok-others.ensures)
+            (names_one d c.change.new.self new others c.change.ensures.files
+            (subst (λ (names : MemoryNames). IsPermutation (new ∷ others) names.items.items) (sym c.in_ok-change.ensures.ok)
+            c.in_ok-names.ensures.ok.1)),
+      ),
     )

@@ -18,5 +18,8 @@ invariant_of-result c =
 
 pub returns-clause-ok : goal.returns-clause-ok
 returns-clause-ok c =
-    let same = c.in_ok-items.ensures.items ∙ c.as_slice.ensures.value in
-    rw (c.in_ok-insert.ensures.items, same) (IsPermutation-insert c.args.self.now.items.items c.in-Err.at c.args.one)
+    let same = c.in_ok-items.ensures.items ∙ c.as_slice.ensures.value in (
+      c.in_ok-check_name.ensures.ok,
+      rw (c.in_ok-insert.ensures.items, same)
+          (IsPermutation-insert c.args.self.now.items.items c.in-Err.at c.args.one),
+    )
