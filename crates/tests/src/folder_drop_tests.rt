@@ -36,9 +36,8 @@ fn check_ids(
 ) -> Result<(), Fail> {
     let entries = maildrop.entries()?;
     assert_eq!(rt; entries.len(), ids.len());
-    for (entry, id) in entries.iter().zip(ids) {
-        assert!(rt; entry.uid() == *id);
-    }
+    let mut pairs = entries.iter().zip(ids);
+    assert!(rt; pairs.all(|(entry, id)| entry.uid() == *id));
     Ok(())
 }
 
