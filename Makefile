@@ -2,8 +2,8 @@
 #
 #   make demo       serves a message with popd, fetches it with getmail, and shows each step: in a second, or before the
 #                   programs are built in two minutes on four cores, in three on two
-#   make            proves and builds the programs into bin/: half an hour on four cores, up to an hour on two; again only
-#                   what has changed, if the kit keeps what it has proved (README.md)
+#   make            proves and builds the programs into bin/: half an hour on four cores; again only what has changed,
+#                   if the kit keeps what it has proved (README.md)
 #   make check      the gate: every proof, then every test; its last line is 'N passed, 0 failed'
 #   make quick      what can be checked in seconds: the layout, the mutants' texts, the documents, these two texts
 #   make statement  prints what is promised with all definitions, from the sources: docs/STATEMENT.txt
