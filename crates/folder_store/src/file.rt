@@ -65,6 +65,7 @@ impl<'a, F: FileFolder + Drop> HostFile<'a, F> {
         ensures refusals { ⟦<HostFile<'a, F> as FlatFile>⟧.refusals result ≡ 0 }
         ensures disk { ⟦<HostFile<'a, F> as FlatFile>⟧.disk result ≡ disk_at (F.directory folder) name.now }
         ensures parts { (result.folder ≡ folder) × (result.name.now ≡ name.now) }
+        ensures sound { F.sound folder → ⟦<HostFile<'a, F> as FlatFile>⟧.sound result }
     {
         HostFile {
             folder,

@@ -60,25 +60,11 @@ impl<'a, R: Files + Clock + AllocGlobal + Clone + Drop> CallsFolders<
         ensures in_new { AreInMaildir result.calls.new_folder.paths path.now (codes "new") }
         ensures in_cur { AreInMaildir result.calls.cur_folder.paths path.now (codes "cur") }
     {
-        CallsFolders::named(system, path, ("new", "cur"), mark)
-    }
-
-    /// The same, if these are the names of the two folders in the folder at the path.
-    pub fn named(
-        system: &'a System<'a, R>,
-        path: &'a str,
-        names: (&'a str, &'a str),
-        mark: ProcessMark,
-    ) -> HostFolders<'a, R>
-        ensures state { ⟦<HostFolders<'a, R> as MailFolders>⟧.directories result ≡ unknown_directories }
-        ensures in_new { AreInMaildir result.calls.new_folder.paths path.now names.entry.0.now }
-        ensures in_cur { AreInMaildir result.calls.cur_folder.paths path.now names.entry.1.now }
-    {
         CallsFolders {
             calls: CallsShared {
                 system,
-                new_folder: CallsFolder::of_maildir(system, path, names.0, mark),
-                cur_folder: CallsFolder::of_maildir(system, path, names.1, mark),
+                new_folder: CallsFolder::of_maildir(system, path, "new", mark),
+                cur_folder: CallsFolder::of_maildir(system, path, "cur", mark),
             },
             refusals: system.refusals,
             alloc: system.alloc(),

@@ -24,7 +24,8 @@ pub struct FoundNames {
 
 /// The folders `new` and `cur` of a Maildir, any of whose calls may be refused. Mail readers may move
 /// files between the two, change their marks and take files away at any moment: what a call does, it
-/// does to what they left. Only `list` sees that a file was taken away.
+/// does to what they left. Only `list` sees that a file was taken away. Files that no listing seeks may
+/// be added too, as by a delivery agent: they count as added after the last call.
 ///
 /// A file is made without a name in the two, at a place that no other call sees, and then put into
 /// `new` at one step. No call removes a file that has a name.
@@ -42,7 +43,8 @@ pub trait MailFolders {
     ghost directories: { Self → Directories };
 
     // The premise: so far the file system did what this trait says, flushed folders when it was asked to, and others
-    // did nothing but move, mark and take away files. If it holds after a call, it held before.
+    // did nothing but move, mark and take away files, and add files that no listing sought. If it holds after a call,
+    // it held before.
     ghost sound: { Self → Type 0 };
 
     /// Whether a folder is there: Missing if it isn't.

@@ -53,6 +53,7 @@ impl<N: NewFile + Drop, F: MailFolders<File = N> + Drop> FolderMaildir<F, N> {
         ensures state { ⟦<FolderMaildir<F, N> as MaildirDisk>⟧.maildir result
             ≡ maildir_in (F.directories folders) None [] 0 }
         ensures over { result.folders ≡ folders }
+        ensures sound { F.sound folders → ⟦<FolderMaildir<F, N> as MaildirDisk>⟧.sound result }
     {
         FolderMaildir {
             alloc,

@@ -15,7 +15,8 @@ pub struct ListedNames {
 }
 
 /// A file system, as one device asks it for the folders `new` and `cur` of a Maildir, each call of which may be
-/// refused. Readers may move files between the two, change their marks and take files away before each call.
+/// refused. Readers may move files between the two, change their marks and take files away before each call. A delivery
+/// agent may add files of other names at any moment: what no listing seeks is no file of the two until the calls end.
 pub trait SharedCalls {
     ghost use Rattle.std.specs.{
       Prelude.{◌≡◌, ℕ, List, IfErr, IfOk, map, string_bytes},
@@ -71,11 +72,11 @@ pub trait SharedCalls {
     ghost was_denied: { Self → Denial → Type 0 };
 
     // The premise: so far the system did what its calls promise, flushed folders when it was asked to, and others did
-    // nothing but move, mark and take away files, and gave no name in `new` between lstat(2) of it and rename(2) to it.
-    // Each change gives a folder another time of change, once the folder has rested for a step of the clock. Only names
-    // that the last listing of their folder told, as ones that were sought, are looked at by stat(2) and open(2). Until
-    // the lstat(2) just after, each leads to what it led to then, unless it is a file's that moved or went. If the
-    // premise holds after a call, it held before.
+    // nothing but move, mark and take away files, and add files that no listing sought, and gave no name in `new`
+    // between lstat(2) of it and rename(2) to it. Each change gives a folder another time of change, once it has rested
+    // for a step of the clock. Only names that the last listing of their folder told, as ones that were sought, are
+    // looked at by stat(2) and open(2). Until the lstat(2) just after, each leads to what it led to then, unless it is
+    // a file's that moved or went. If the premise holds after a call, it held before.
     ghost sound: { Self → Type 0 };
 
     /// stat(2) of a folder.

@@ -49,7 +49,7 @@ Undoes old text result new = (was : List ℕ) × EntryMayFollow (seen_on old) wa
     × ((mid : Disk) × AppendsDisk {T = Unit {0}} (all_flushed old) (entry_of text) (Err Refused) mid
     × CutsDisk mid (length was) result new)
 
--- `append_entry`: once the file was flushed, the entry was appended; there is none, no entry may follow it, memory ran
+-- `append_owned`: once the file was flushed, the entry was appended; there is none, no entry may follow it, memory ran
 -- out, or the flush was refused; or the append was refused, and the file cut back; or the cut back was refused too
 abbrev pub AppendsEntry : {T : Type 0} → Disk → List ℕ → Result T EntryFault → Disk → Type 0
 AppendsEntry old text (Ok done) new = ((was : List ℕ) × EntryMayFollow (seen_on old) was)
@@ -59,6 +59,14 @@ AppendsEntry old text (Err (Nothing Refused)) new =
 AppendsEntry old text (Err (Nothing NoMemory)) new = new ≡ all_flushed old
 AppendsEntry old text (Err (Nothing fault)) new = ReadsDisk {T = Unit {0}} TellsMbox old (Err fault) new
 AppendsEntry old text (Err Front) new = Undoes {T = Unit {0}} old text (Err Refused) new
+
+-- `append_entry`: the same, but memory may run out before the file is looked at, and a refusal doesn't tell whether the
+-- cut back was refused too
+abbrev pub AppendsCopy : {T : Type 0} → Disk → List ℕ → Result T StoreFault → Disk → Type 0
+AppendsCopy old text (Ok done) new = AppendsEntry old text (Ok done) new
+AppendsCopy old text (Err fault) new = ((fault ≡ NoMemory) × (new ≡ old))
+    ⊎ (AppendsEntry {T = Unit {0}} old text (Err (Nothing fault)) new
+    ⊎ ((fault ≡ Refused) × AppendsEntry {T = Unit {0}} old text (Err Front) new))
 
 -- what calls see then: the entry behind the file's bytes; the file as it was; or a front of the entry behind them
 abbrev pub SeesEntry : {T : Type 0} → Option (List ℕ) → List ℕ → Result T EntryFault → Option (List ℕ) → Type 0
@@ -93,6 +101,12 @@ abbrev pub TalliesEntry : {T : Type 0} → Result T EntryFault → ℕ → ℕ �
 TalliesEntry (Ok done) old new = new ≡ old
 TalliesEntry (Err (Nothing fault)) old new = Tallies (is_refusal fault) old new
 TalliesEntry (Err Front) old new = new ≡ counted_up (counted_up old)
+
+-- the same if a refusal doesn't tell whether the cut was refused
+abbrev pub TalliesCopy : {T : Type 0} → Result T StoreFault → ℕ → ℕ → Type 0
+TalliesCopy (Ok done) old new = new ≡ old
+TalliesCopy (Err fault) old new =
+    Tallies (is_refusal fault) old new ⊎ ((fault ≡ Refused) × (new ≡ counted_up (counted_up old)))
 
 -- the bytes of each text
 abbrev pub text_bytes : {A B : Type 0} → Vec (Vec ℕ A) B → List (List ℕ)

@@ -19,14 +19,14 @@ pub use maildir::held::{Query, flags_tell_what_is_held, flush_held, held, held_a
 pub use maildir::loss::{
     calls_keep_files_flushed, calls_leave_no_more, losses_leave_what_is_durable,
 };
-pub use maildir::memory::MemoryMaildir;
+pub use maildir::memory::{MemoryMaildir, memory_can_be_opened};
 pub use maildir::names::{
     add_size, file_name, file_stem, marks_keep_the_base, names_are_bases, names_have_stems,
     one_more_is_held, sought_names, stem, stems_are_stems, stems_differ, uid_of,
     unheld_ids_are_not_there,
 };
 pub use mboxrd::entry::{
-    append_entry, appended_entries_are_durable, check_mbox, entries_add_texts,
+    append_entry, append_owned, appended_entries_are_durable, check_mbox, entries_add_texts,
     entries_may_follow_texts, entry_len, files_have_one_reading, peek_ends, peek_mbox,
 };
 pub use mboxrd::quoting::{is_whole, quote, unquote, unquoting_undoes_quoting};

@@ -25,7 +25,7 @@ pub use honesty::{conversations_are_honest, loops_are_honest};
 pub use journal::{Event, Journal};
 pub use laws::{only_quit_closes, quit_leaves_few};
 pub use maildrop::{DropFault, Entry, MAX_COUNT, MAX_SIZE, Maildrop};
-pub use memory_drop::MemoryDrop;
+pub use memory_drop::{MemoryDrop, memory_refuses_nothing};
 pub use server::{Answer, Server};
 pub use serving::{serve, serve_and_note};
 pub use size::{SizeCount, size_of};

@@ -249,3 +249,10 @@ impl Maildrop for MemoryDrop {
         0
     }
 }
+
+/// A law: no maildrop in memory has refused a call.
+pub fn memory_refuses_nothing(drop: &MemoryDrop)
+    ensures { drop.now.failures ≡ 0 }
+{
+    let _removals = drop.removals;
+}

@@ -22,7 +22,7 @@ use crate::report::{ReportLine, note};
 use crate::work::Ledger;
 use fetch_rules::marked_keeps_rows;
 use mail_store::{
-    EntryFault, FlatFile, MaildirDisk, StoreFault, append_entry, entry_len, is_whole,
+    EntryFault, FlatFile, MaildirDisk, StoreFault, append_owned, entry_len, is_whole,
     one_more_is_held,
 };
 use pop3_client::{Client, conversations_are_paced};
@@ -77,7 +77,7 @@ fn append_text<F: FlatFile, H: BuildHasher>(
     let edges = mbox.edges()?;
     let len = entry_len(&text);
     let size = intend(&mut ledger.file, &mut ledger.seen, uid, edges.size, len)?;
-    match append_entry(mbox, text) {
+    match append_owned(mbox, text) {
         Ok(()) => Ok(()),
         Err(EntryFault::Front) => Err(Fault::from(StoreFault::Refused)),
         Err(EntryFault::Nothing(fault)) => {

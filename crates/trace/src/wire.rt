@@ -165,6 +165,7 @@ impl<'a, W: Wire, E: Write + Drop> TracedWire<'a, W, E> {
         talk: Option<&'a Talk>,
     ) -> TracedWire<'a, W, E>
         ensures wire { result.wire ≡ wire }
+        ensures sound { W.sound wire → ⟦<TracedWire<'a, W, E> as Wire>⟧.sound result }
         ensures traced { IsTraced err (option_map (λ talk. talk.now) talk.entry)
             (option_map (λ secret. secret.items) password) result }
     {

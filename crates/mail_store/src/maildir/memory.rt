@@ -1,11 +1,11 @@
 //! A Maildir in memory.
 
 ghost use Rattle.std.specs.{
-  Prelude.{◌≡◌, ◌<◌, ◌↔◌, ◌++◌, length, map, Contains, HoldsAt, IfOk, IfSome, IsSome, OnOk},
+  Prelude.{◌≡◌, ◌<◌, ◌↔◌, ◌++◌, [], length, map, Contains, HoldsAt, IfOk, IfSome, IsSome, OnOk},
   List.filter,
   String.string_bytes,
 };
-ghost use Rattle.mail_store.specs.{Held.{asks, is_sought}, Maildir.{names_of, memory_file}};
+ghost use Rattle.mail_store.specs.{Held.{asks, is_sought}, Maildir.{all_there, names_of, memory_file}};
 
 use crate::fault::StoreFault;
 use crate::maildir::disk::{Asked, Folder, MaildirDisk};
@@ -171,6 +171,14 @@ fn names_among(
     add_names(&mut names, cur)?;
     add_names(&mut names, new)?;
     sought_names(alloc, &names, asked)
+}
+
+/// A law: of any Maildir in memory the folders are there, and all in it can be opened.
+pub fn memory_can_be_opened(disk: &MemoryMaildir)
+    ensures there { disk.now.maildir.there ≡ all_there }
+    ensures none_odd { disk.now.maildir.odd ≡ [] }
+{
+    let _failures = disk.failures.count();
 }
 
 /// The names of some files.

@@ -9,12 +9,13 @@ ghost use Rattle.mail_store.specs.{
   Fault.is_refusal,
   FlatFile.{HasBytes, edges_of},
   Mboxrd.{MayGoOn, entry_of, separator, EntryAddsText, OneListOfTexts, TextsMayGoOn},
-  MboxCalls.{AppendsEntry, EntriesAreDurable, TalliesEntry, TellsEnds, TellsFront, TellsMbox},
+  MboxCalls.{AppendsCopy, AppendsEntry, EntriesAreDurable, TalliesCopy, TalliesEntry, TellsEnds, TellsFront, TellsMbox},
 };
 
 use crate::fault::{EntryFault, StoreFault};
 use crate::file::flat_file::{Edges, FlatFile};
 use crate::mboxrd::quoting::{quote_within, quoted_len};
+use std::alloc::Global;
 
 pub const SEPARATOR: &[u8] = b"From MAILER-DAEMON Thu Jan  1 00:00:00 1970\n";
 
@@ -170,7 +171,7 @@ pub fn entry_len(text: &[u8]) -> u64
 /// Nothing if the file is as it was: Missing if there is none, NotMbox if it isn't empty and doesn't both
 /// begin with `From ` and end with LF LF, NoMemory if memory runs out, Refused if the device refused. After
 /// a refused `append` the file is cut back to the size that it had; Front if that is refused too.
-pub fn append_entry<F: FlatFile>(file: &mut F, text: Vec<u8>) -> Result<(), EntryFault>
+pub fn append_owned<F: FlatFile>(file: &mut F, text: Vec<u8>) -> Result<(), EntryFault>
     requires { IsWhole text.items }
     ensures appends { F.sound file.new → F.sound file.old
         × AppendsEntry (F.disk file.old) text.items result (F.disk file.new) }
@@ -185,6 +186,21 @@ pub fn append_entry<F: FlatFile>(file: &mut F, text: Vec<u8>) -> Result<(), Entr
             Ok(()) => Err(EntryFault::Nothing(fault)),
             Err(_) => Err(EntryFault::Front),
         },
+    }
+}
+
+/// Appends the entry of a text to a file, as `append_owned` does, in memory of its own. Refused may also mean that a
+/// front of the entry is there.
+pub fn append_entry<F: FlatFile>(alloc: Global, file: &mut F, text: &[u8]) -> Result<(), StoreFault>
+    requires { IsWhole text.now }
+    ensures appends { F.sound file.new → F.sound file.old
+        × AppendsCopy (F.disk file.old) text.now result (F.disk file.new) }
+    ensures count { TalliesCopy result (F.refusals file.old) (F.refusals file.new) }
+{
+    match append_owned(file, Vec::from_slice(alloc, text)?) {
+        Ok(()) => Ok(()),
+        Err(EntryFault::Nothing(fault)) => Err(fault),
+        Err(EntryFault::Front) => Err(StoreFault::Refused),
     }
 }
 

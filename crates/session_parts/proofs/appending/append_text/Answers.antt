@@ -90,8 +90,8 @@ returns-in-Err-Front-clause-writes g c = λ m f.
         inl (
           (
             rw c.in-Err-Front.field-0-is at appends.1,
-            entry_counted (Err Front) (g.F.FlatFile.refusals c.edges.new.self) (g.F.FlatFile.refusals c.append_entry.new.file)
-                (g.met.F.FlatFile.below c.append_entry.new.file m) (rw c.in-Err-Front.field-0-is at c.in-Err-Front.ensures.count),
+            entry_counted (Err Front) (g.F.FlatFile.refusals c.edges.new.self) (g.F.FlatFile.refusals c.append_owned.new.file)
+                (g.met.F.FlatFile.below c.append_owned.new.file m) (rw c.in-Err-Front.field-0-is at c.in-Err-Front.ensures.count),
           ),
           refl,
           c.from.ensures,
@@ -116,8 +116,8 @@ returns-in-Err-Nothing-clause-writes g c = λ m f.
           why,
           (
             rw c.in-Err-Nothing.field-0-is at appends.1,
-            entry_counted (Err (Nothing why)) (g.F.FlatFile.refusals c.edges.new.self) (g.F.FlatFile.refusals c.append_entry.new.file)
-                (g.met.F.FlatFile.below c.append_entry.new.file m) (rw c.in-Err-Nothing.field-0-is at c.in-Err-Nothing.ensures.count),
+            entry_counted (Err (Nothing why)) (g.F.FlatFile.refusals c.edges.new.self) (g.F.FlatFile.refusals c.append_owned.new.file)
+                (g.met.F.FlatFile.below c.append_owned.new.file m) (rw c.in-Err-Nothing.field-0-is at c.in-Err-Nothing.ensures.count),
           ),
           cuts.1,
           c.from-in-Err-Nothing.ensures,
@@ -141,8 +141,8 @@ returns-in-Ok-clause-writes g c = λ m f.
         i,
         (
           appends.1,
-          entry_counted (Ok tt) (g.F.FlatFile.refusals c.edges.new.self) (g.F.FlatFile.refusals c.append_entry.new.file)
-              (g.met.F.FlatFile.below c.append_entry.new.file m) c.in-Ok.ensures.count,
+          entry_counted (Ok tt) (g.F.FlatFile.refusals c.edges.new.self) (g.F.FlatFile.refusals c.append_owned.new.file)
+              (g.met.F.FlatFile.below c.append_owned.new.file m) c.in-Ok.ensures.count,
         ),
         rw (edges, size) at c.in_ok-size.ensures.opened,
       ),
