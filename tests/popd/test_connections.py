@@ -59,21 +59,19 @@ class Connections(OverLoopback):
                 self.check_good_client(service)
             self.assertEqual(service.finish(), (0, b""))
 
-    def opened_folders(self, service):
-        """The folders of the Maildir that the server has open, by their names."""
-        paths = [os.readlink(file) for file in Path(f"/proc/{service.process.pid}/fd").iterdir()]
-        return sorted(os.path.basename(path) for path in paths if os.path.dirname(path) == str(self.maildir.folder.resolve()))
-
-    def test_folders_are_closed_between_connections(self):
-        """Others may change the Maildir then."""
+    def test_folders_that_are_replaced_between_connections(self):
+        """The next one is served what is there then, and may remove it."""
         with Service(self.maildir) as service:
             self.check_good_client(service)
+            for part in ("new", "cur"):
+                os.rename(self.maildir.folder / part, self.maildir.folder / f"{part}-before")
+                os.mkdir(self.maildir.folder / part)
+            self.maildir.add("cur", "later", b"later\n")
             with service.client() as client:
-                self.assertEqual(client.line(), READY)
-                self.assertEqual(self.opened_folders(service), [])
-                client.ask(b"USER u")
-                client.ask(b"PASS p")
-                self.assertEqual(self.opened_folders(service), ["cur", "new"])
+                self.assertEqual(client.log_in(), b"+OK 1 messages\r\n")
+                client.ask(b"DELE 1")
+                self.assertEqual(client.ask(b"QUIT"), b"+OK bye\r\n")
+        self.assertEqual(self.maildir.names(), [])
 
     def test_a_server_that_is_stopped_and_goes_on(self):
         """The system interrupts its read, whose wait is bounded; the client sees nothing of it."""

@@ -259,7 +259,7 @@ class Changes(unittest.TestCase):
 
     def test_no_maildir_at_all(self):
         with Maildir() as maildir:
-            maildir.folder = maildir.passfile
+            maildir.folder /= "none"
             with Service(maildir) as service, service.client() as client:
                 self.assertEqual(client.log_in(), b"-ERR maildrop unavailable\r\n")
 
@@ -481,7 +481,6 @@ class Listings(unittest.TestCase):
             self.assertEqual(service.finish(), (0, f'popd: warning: cannot read {path}\n'.encode() * 2))
 
     def test_a_folder_that_cannot_be_listed_is_named(self):
-        """By its path, and not by that of what the server has open."""
         for part in ("new", "cur"):
             folder = self.maildir.folder / part
             with self.subTest(part), self.meddled(refused=f"{folder}/") as service:
@@ -489,6 +488,19 @@ class Listings(unittest.TestCase):
                     with service.client() as client:
                         self.assertEqual(client.log_in(), b"-ERR maildrop unavailable\r\n")
                 self.assertEqual(service.finish(), (0, f'popd: warning: cannot read {folder}\n'.encode() * 2))
+
+    def test_what_could_not_be_read_is_named_once(self):
+        """The next connection, which lists all, warns of nothing."""
+        new, aside = self.maildir.folder / "new", self.maildir.folder / "aside"
+        with Service(self.maildir, "--connections", "3") as service:
+            new.rename(aside)
+            for answer in (b"-ERR maildrop unavailable\r\n", b"+OK 2 messages\r\n", b"+OK 2 messages\r\n"):
+                with service.client() as client:
+                    self.assertEqual(client.log_in(), answer)
+                    client.ask(b"QUIT")
+                if aside.exists():
+                    aside.rename(new)
+            self.assertEqual(service.finish(), (0, f"popd: warning: cannot read {new}\n".encode()))
 
     def test_a_file_that_was_refused_earlier_is_not_named(self):
         """The second listing is refused for want of random octets, which is no fault of any file."""

@@ -1,11 +1,13 @@
 """Which files QUIT removes: those of the messages that were served, and none that may be another message."""
 
+import itertools
 import os
+import shutil
 import socket
 import unittest
 from pathlib import Path
 
-from harness import preload, programs
+from harness import kernel, preload, programs
 from popd.service import Maildir, Service
 
 REFUSED = b"-ERR some messages not removed\r\n"
@@ -34,8 +36,10 @@ class Removals(unittest.TestCase):
         return str(self.maildir.folder / part / name)
 
     def warning(self, one, other):
-        words = "have one unique-id but may be different messages"
-        return f"popd: warning: not removed: {one} and {other} {words}\n".encode()
+        words = f"{one} isn't as it was listed"
+        if one != other:
+            words = f"{one} and {other} have one unique-id but may be different messages"
+        return f"popd: warning: not removed: {words}\n".encode()
 
     def service(self, connections=1, words=(), **environment):
         return Service(self.maildir, "--connections", str(connections), *words, **environment)
@@ -213,7 +217,7 @@ class OneMessage(Removals):
 
 
 class ChangesBeforeQuit(Removals):
-    """The listed file is the one that is where it was listed, or has its length and time of change."""
+    """The listed file is the one that has its number, length and time of change, wherever it is."""
 
     def test_the_listed_file_is_gone_and_another_has_its_name(self):
         """Even if it has the listed one's length."""
@@ -251,8 +255,15 @@ class ChangesBeforeQuit(Removals):
         self.check_gone(before=lambda: os.rename(listed, self.path("new", "a")))
 
     def test_a_file_that_is_edited_where_it_was_listed(self):
+        for change in (lambda path: path.write_bytes(b"another text\n"), lambda path: os.utime(path, ns=(0, 0))):
+            listed = self.fill()
+            self.check_kept(one=listed, other=listed, before=lambda: change(Path(listed)))
+
+    def test_a_copy_in_the_place_of_the_listed_file(self):
+        """It has the same octets, length and time of change."""
         listed = self.fill()
-        self.check_gone(before=lambda: Path(listed).write_bytes(b"another text\n"))
+        shutil.copy2(listed, self.path("tmp", "a"))
+        self.check_kept(one=listed, other=listed, before=lambda: os.rename(self.path("tmp", "a"), listed))
 
     def test_a_folder_that_cannot_be_listed(self):
         """All removals are refused, not the first alone."""
@@ -266,6 +277,55 @@ class ChangesBeforeQuit(Removals):
                     self.assertEqual(self.leave(service, 1, 2, 3, before=when.touch), REFUSED)
                     self.assertIn(b": 0 messages removed, 3 not removed\n", service.finish()[1])
                 self.assertEqual(self.maildir.names(), self.seen)
+
+
+class NamesOfTwoMessages(Removals):
+    """Another message gets the name of the one that a client has read and marked: it isn't removed unread. Both files have
+    one length and one time of change."""
+
+    CHANGES = {
+        "renamed": os.rename,
+        "exchanged": kernel.exchange,
+        "exchanged by a third name": lambda other, own: (os.rename(own, f"{own}x"), os.rename(other, own), os.rename(f"{own}x", other)),
+    }
+
+    def check(self, between=lambda client: None, flags=None):
+        """In each pair of folders, in each way."""
+        for (way, change), parts in itertools.product(self.CHANGES.items(), itertools.product(("cur", "new"), repeat=2)):
+            with self.subTest(way, parts=parts):
+                self.maildir = self.enterContext(Maildir())
+                own, other = paths = [os.fsdecode(self.maildir.add(part, name, name[:1].encode() + b"\n")) for part, name in
+                                      zip(parts, ("a:2,", "b:2,"))]
+                self.maildir.add("cur", "c", b"c\n")
+                for path in paths:
+                    os.utime(path, ns=(0, 0))
+                with self.service() as service, service.client() as client:
+                    client.log_in()
+                    self.assertEqual(client.ask_lines(b"RETR 1"), b"+OK 3 octets\r\na\r\n.\r\n")
+                    between(client)
+                    change(other, own)
+                    if flags:
+                        os.rename(own, own := self.path("cur", f"a{flags}"))
+                    left = self.maildir.names()
+                    self.assertEqual(client.ask(b"DELE 1"), b"+OK marked\r\n")
+                    self.assertEqual(client.ask(b"QUIT"), REFUSED)
+                    told = service.finish()
+                self.assertEqual((self.maildir.names(), Path(own).read_bytes()), (left, b"b\n"))
+                self.assertEqual(told, (0, self.warning(paths[0], own)))
+
+    def test_where_it_was_listed(self):
+        self.check()
+
+    def test_with_other_flags(self):
+        self.check(flags=":2,S")
+
+    def test_after_a_second_listing(self):
+        """A message that isn't found where it was listed makes the server list the folders anew."""
+        def list_anew(client):
+            os.rename(self.path("cur", "c"), self.path("cur", "c:2,S"))
+            self.assertEqual(client.ask_lines(b"RETR 3"), b"+OK 3 octets\r\nc\r\n.\r\n")
+
+        self.check(list_anew)
 
 
 class WhatIsNoFileAnyMore(Removals):

@@ -151,6 +151,13 @@ class Beginnings(unittest.TestCase):
     def test_an_address_that_is_taken(self):
         self.check_told(f"cannot listen on {self.address}", f"{self.address}: Address already in use")
 
+    def test_a_port_without_an_address(self):
+        """And what else isn't of the form."""
+        for address in ("1100", "localhost", f"{LOOPBACK}:", f"{LOOPBACK}:65536", "[::1]"):
+            with self.subTest(address):
+                self.words = ("--listen", address, *self.words[2:])
+                self.check_told(f"cannot listen on {address}", f"{address}: an address is HOST:PORT, such as 127.0.0.1:1100")
+
     def test_a_password_file_that_is_not_there(self):
         passfile = self.maildir.passfile
         passfile.unlink()

@@ -14,8 +14,8 @@ use Rattle.mail_terms.specs.{Distinct.AreDistinct, MaildirName.base}
 use Rattle.folder_drop.specs.{
   declared.{
     listed_file.ListedFile.ListedFile,
-    mail_files.{FileNumber.FileNumber, FileWay.FileWay, Found.Found},
-    maildir_names.Folder.{Folder, TheVariants.{Cur, New}},
+    mail_files.{FileWay.FileWay, Found.Found},
+    maildir_names.{FileNumber.FileNumber, Folder.{Folder, TheVariants.{Cur, New}}, Stamp.Stamp},
   },
   Finding.{IsFoundNow, IsOpenNow},
   MaildirMail.{IsKnown, IsOwn, is_namesake, own_file},
@@ -169,8 +169,8 @@ own_opened remaining found opened files listed handle whole finds reads is_open 
     let is = is_open.1 in
     let here = finds now.0 (Some now.1) is.bears in
     let file = here.file in
-    let octets = all_at (λ (f : DropFile). f.number ≡ now.1.number → remaining handle ≡ Some f.content) files file
-    (reads now.0 now.1.number handle is_open.3) here.there (sym here.number) in
+    let octets = all_at (λ (f : DropFile). f.stamp.number ≡ now.1.stamp.number → remaining handle ≡ Some f.content) files file
+    (reads now.0 now.1.stamp.number handle is_open.3) here.there (ap (λ (s : Stamp). s.number) (sym here.stamp)) in
     ⊎_elim (λ leads. (
       file,
       first_if_some files listed file (finds_at files whole.distinct (listed_place listed) file here.there

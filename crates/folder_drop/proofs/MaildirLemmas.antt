@@ -20,8 +20,8 @@ use Rattle.pop3_server.specs.Maildrop.{ListedMessage, max_count, max_size}
 use Rattle.folder_drop.specs.{
   declared.{
     listed_file.ListedFile.ListedFile,
-    mail_files.{FileNumber.FileNumber, FileWay.FileWay, Found.Found},
-    maildir_names.{PlacedFile.PlacedFile, Stamp.Stamp},
+    mail_files.{FileWay.FileWay, Found.Found},
+    maildir_names.{FileNumber.FileNumber, PlacedFile.PlacedFile, Stamp.Stamp},
     seen_files.SeenFiles.SeenFiles,
   },
   CountedSizes.{ComeFrom, WasCounted},

@@ -15,8 +15,8 @@ use Rattle.pop3_server.specs.{Maildrop.max_size, Size.{capped, size_of}}
 use Rattle.folder_drop.specs.{
   declared.{
     listed_file.ListedFile.ListedFile,
-    mail_files.{FileNumber.FileNumber, FileWay.FileWay, Found.Found},
-    maildir_names.{Folder.Folder, PlacedFile.PlacedFile, Stamp.Stamp},
+    mail_files.{FileWay.FileWay, Found.Found},
+    maildir_names.{FileNumber.FileNumber, Folder.Folder, PlacedFile.PlacedFile, Stamp.Stamp},
     seen_files.SeenFiles.SeenFiles,
   },
   CountedSizes.WasCounted,
@@ -71,7 +71,7 @@ module _ {File : Type 0} (remaining : File → Option (List ℕ)) (found : FileW
     (place : folder_and_name placed ≡ file_place file) where
   -- what was found for the place of a file is that file
   found_it : (now : FileWay × Found) → IsFoundNow found (folder_and_name placed) now
-      → (now.1.is_regular ≡ file.is_regular) × (now.1.number ≡ file.number) × (now.1.stamp ≡ file.stamp)
+      → (now.1.is_regular ≡ file.is_regular) × (now.1.stamp ≡ file.stamp)
   found_it now is =
       let here = knows.finds now.0 (Some now.1) is.bears in
       let same : here.file ≡ file = ⊎_elim
@@ -81,7 +81,6 @@ module _ {File : Type 0} (remaining : File → Option (List ℕ)) (found : FileW
       (knows.finds missed.0 None missed.2) there
       (missed.1.0 ∙ ap (λ (p : Folder × List ℕ). p.0) place, missed.1.1 ∙ ap (λ (p : Folder × List ℕ). p.1) place))) is.first in (
         here.regular ∙ ap (λ (f : DropFile). f.is_regular) same,
-        here.number ∙ ap (λ (f : DropFile). f.number) same,
         here.stamp ∙ ap (λ (f : DropFile). f.stamp) same,
       )
 
@@ -105,8 +104,8 @@ module _ {File : Type 0} (remaining : File → Option (List ℕ)) (found : FileW
       let handle = is.0 in
       let now = is.1.0 in
       let same = found_it now is.1.1 in
-      let octets = all_at (λ (f : DropFile). f.number ≡ now.1.number → remaining handle ≡ Some f.content) files file
-      (knows.reads now.0 now.1.number handle is.1.3) there (sym same.1) in
+      let octets = all_at (λ (f : DropFile). f.stamp.number ≡ now.1.stamp.number → remaining handle ≡ Some f.content) files file
+      (knows.reads now.0 now.1.stamp.number handle is.1.3) there (ap (λ (s : Stamp). s.number) (sym same.1)) in
       rw octets at is.2
 
   counted_it : (earlier : List ListedFile) (stamp : Stamp) (size : ℕ) → AreRight files earlier → stamp ≡ file.stamp
@@ -120,7 +119,7 @@ module _ {File : Type 0} (remaining : File → Option (List ℕ)) (found : FileW
   measured_so earlier measured right short small is =
       let now = is.stamp.0 in
       let same = found_it now is.stamp.1 in
-      let stamp : measured.0 ≡ file.stamp = sym is.stamp.3 ∙ same.2 in
+      let stamp : measured.0 ≡ file.stamp = sym is.stamp.3 ∙ same.1 in
       let size : measured.1 ≡ size_of file.content = ⊎_elim (λ was. counted_it earlier measured.0 measured.1 right stamp was)
       (λ read. let e = read_it measured.1 read in e ∙ same_small (size_of file.content) (subst (λ (n : ℕ). n ≤ max_size) e small)) is.size
       in (
@@ -143,7 +142,7 @@ module _ {File : Type 0} (remaining : File → Option (List ℕ)) (found : FileW
       let stamp = unfit.0 in
       let known = unfit.1 in
       let then = unfit.2.1 in
-      let same : stamp ≡ file.stamp = sym then.3 ∙ (found_it then.0 then.1).2 in
+      let same : stamp ≡ file.stamp = sym then.3 ∙ (found_it then.0 then.1).1 in
       ⊎_elim (λ long. not_fit (inr (inl (subst (λ (s : Stamp). max_size < s.length) same long))))
       (λ other. ⊎_elim
       (λ great. not_fit (inr (inr (⊎_elim

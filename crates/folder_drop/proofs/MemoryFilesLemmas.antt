@@ -17,8 +17,8 @@ use Rattle.std.{
 }
 use Rattle.folder_drop.specs.{
   declared.{
-    mail_files.{FileNumber.FileNumber, FileWay.FileWay, Found.Found},
-    maildir_names.{Folder.Folder},
+    mail_files.{FileWay.FileWay, Found.Found},
+    maildir_names.{FileNumber.FileNumber, Folder.Folder},
     memory_files.{MemoryFile.MemoryFile, MemoryFiles.MemoryFiles, MemoryHandle.MemoryHandle},
     memory_names.{MemoryName.MemoryName, MemoryNames.MemoryNames},
   },
@@ -210,7 +210,6 @@ has_file d way one what there place is = record {
   there = contains_map (file_named d.files.items) d.names.items.items one there;
   leads = (sym (ap (λ (p : Folder × List ℕ). p.0) place), sym (ap (λ (p : Folder × List ℕ). p.1) place));
   regular = ap (λ (f : Found). f.is_regular) is;
-  number = ap (λ (f : Found). f.number) is;
   stamp = ap (λ (f : Found). f.stamp) is;
 }
 
@@ -225,12 +224,12 @@ octets_of files k file within is = ap (λ (f : MemoryFile). f.content.now) is
     ∙ sym (get_or-map (λ (f : MemoryFile). f.content.now) files k file [] within)
 
 pub handle_octets : (d : MemoryFiles) (handle : MemoryHandle) → IsHandle d handle
-    → HasOctetsOf (λ (h : MemoryHandle). Some h.rest.now) (mail_files d) handle.found.number handle
+    → HasOctetsOf (λ (h : MemoryHandle). Some h.rest.now) (mail_files d) handle.found.stamp.number handle
 handle_octets d handle is = λ k e within same.
     let files = d.files.items in
     let file = get_or (mail_files d) k e in
     let there = All-contains_itself (mail_files d) k e within in
-    ap Some (is.2 ∙ ap (λ (n : FileNumber). octets_at files n.inode) (sym (same ∙ ap (λ (f : Found). f.number) is.1))
+    ap Some (is.2 ∙ ap (λ (n : FileNumber). octets_at files n.inode) (sym (same ∙ ap (λ (f : Found). f.stamp.number) is.1))
     ∙ sym (content_by_number files d.names.items.items file there))
 
 not_true : (b : Bool) → b ≡ true → not b ≡ true → ⊥

@@ -12,8 +12,8 @@ use Rattle.std.{
 use Rattle.folder_drop.specs.{
   declared.{
     listed_file.ListedFile.ListedFile,
-    mail_files.{FileNumber.FileNumber, FileWay.FileWay, Found.Found},
-    maildir_names.PlacedFile.PlacedFile,
+    mail_files.{FileWay.FileWay, Found.Found},
+    maildir_names.{FileNumber.FileNumber, PlacedFile.PlacedFile},
     removal.{Namesake.Namesake, TwoMessages.TwoMessages},
   },
   Removal.{AreNamesakes, IsNamesake, IsOther, MayGo, RemovesMessage, WereCompared, if_any},
@@ -64,7 +64,7 @@ pub goes_if : {File : Type 0} (remaining : File → Option (List ℕ)) (opened :
 goes_if remaining opened listed file same were is = inr (subst (WereCompared remaining opened listed file) is were)
 
 pub stays_if : {File : Type 0} (remaining : File → Option (List ℕ)) (opened : FileWay → FileNumber → File → Type 0)
-    (listed file : Namesake) (same : Bool) → file.number ≢ listed.number → WereCompared remaining opened listed file same
+    (listed file : Namesake) (same : Bool) → file.stamp.number ≢ listed.stamp.number → WereCompared remaining opened listed file same
     → same ≡ false → IsOther remaining opened listed file
 stays_if remaining opened listed file same other were is = (other, subst (WereCompared remaining opened listed file) is were)
 
@@ -83,11 +83,11 @@ number_cases a b = same_device a b (cases_eq a.device b.device)
 
 -- all are removed, if those of the number are and those of others
 pub each_removed : (removed : FileWay → FileNumber → Type 0) (number : FileNumber) (files : List Namesake)
-    → All (λ (file : Namesake). file.number ≢ number → removed file.file file.number) files
-    → All (λ (file : Namesake). file.number ≡ number → removed file.file file.number) files
-    → All (λ (file : Namesake). removed file.file file.number) files
+    → All (λ (file : Namesake). file.stamp.number ≢ number → removed file.file file.stamp.number) files
+    → All (λ (file : Namesake). file.stamp.number ≡ number → removed file.file file.stamp.number) files
+    → All (λ (file : Namesake). removed file.file file.stamp.number) files
 each_removed removed number files copies names = λ k d within.
-    ⊎_elim (names k d within) (copies k d within) (number_cases (get_or files k d).number number)
+    ⊎_elim (names k d within) (copies k d within) (number_cases (get_or files k d).stamp.number number)
 
 -- what holds at a place, and of its file, is the same
 pub contains_at : (P : Namesake → Type 0) (files : List Namesake) (i : ℕ) (file : Namesake) → i < length files

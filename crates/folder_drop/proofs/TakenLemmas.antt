@@ -14,8 +14,8 @@ use Rattle.folder_drop.specs.{
   declared.{
     folders_look.FoldersLook.FoldersLook,
     listed_file.ListedFile.ListedFile,
-    mail_files.{FileNumber.FileNumber, FileWay.FileWay, Found.Found},
-    maildir_names.{Folder.Folder, PlacedFile.PlacedFile},
+    mail_files.{FileWay.FileWay, Found.Found},
+    maildir_names.{FileNumber.FileNumber, Folder.Folder, PlacedFile.PlacedFile, Stamp.Stamp},
     removal.{Namesake.Namesake, TwoMessages.TwoMessages},
   },
   MaildirMail.is_namesake,
@@ -132,14 +132,14 @@ module _ {D : Type 0} (path : D → List ℕ) (looked : D → FoldersLook → Li
   -- one more of these names was taken away, if it's to be
   pub takes_more : (Q : Namesake → Type 0) (names : List Namesake) (i : ℕ) (name : Namesake) (old mid new : D) → i < length names
       → name ≡ get_or names i name
-      → AllWithin (λ n. Q n → removed mid n.file n.number) names 0 i × TakesSome path looked removed sound files (BearsOne names) old
+      → AllWithin (λ n. Q n → removed mid n.file n.stamp.number) names 0 i × TakesSome path looked removed sound files (BearsOne names) old
       mid
-      → (Q name → removed new name.file name.number) → TakesSome path looked removed sound files (Has name.file) mid new
-      → AllWithin (λ n. Q n → removed new n.file n.number) names 0 (i + 1)
+      → (Q name → removed new name.file name.stamp.number) → TakesSome path looked removed sound files (Has name.file) mid new
+      → AllWithin (λ n. Q n → removed new n.file n.stamp.number) names 0 (i + 1)
       × TakesSome path looked removed sound files (BearsOne names) old new
   takes_more Q names i name old mid new within is before goes one = (
-    within_more (λ n. Q n → removed new n.file n.number) names i name within is goes
-        (λ k d low high q. one.names (get_or names k d).file (get_or names k d).number (before.0 k d low high q)),
+    within_more (λ n. Q n → removed new n.file n.stamp.number) names i name within is goes
+        (λ k d low high q. one.names (get_or names k d).file (get_or names k d).stamp.number (before.0 k d low high q)),
     takes_then (BearsOne names) old mid new before.1 (takes_named names i name mid new within is one),
   )
 
@@ -167,18 +167,18 @@ module _ (found : FileWay → Option Found → Type 0) (files : List DropFile) (
     (are : AreNamesakes found listed seen all) (have : HaveBase (base (listed_name listed)) from seen) where
   -- what bears one of the names
   bearer : (name : Namesake) → Contains all name
-      → (file : DropFile) × Contains files file × Has name.file file × (file.is_regular ≡ true) × (name.number ≡ file.number)
+      → (file : DropFile) × Contains files file × Has name.file file × (file.is_regular ≡ true) × (name.stamp ≡ file.stamp)
       × (base (listed_name listed) ≡ base file.name)
   bearer name among =
       let was = All-contains (λ n. (s : PlacedFile) × Contains seen s × IsNamesake found listed s (Some n)) all name are.only among in
-      let told = was.2.2 in
+      let told = was.2.1 in
       let here = finds name.file (Some told.0) told.1 in
       let based = All-contains (λ s. (base_of_file s ≡ base (listed_name listed)) × Contains from s) seen was.0 have.only was.1 in (
         here.file,
         here.there,
         here.leads,
         sym here.regular ∙ told.2,
-        told.3 ∙ here.number,
+        told.3 ∙ here.stamp,
         sym based.0 ∙ sym (ap base was.2.0.1) ∙ ap base here.leads.1,
       )
 
@@ -190,7 +190,7 @@ module _ (found : FileWay → Option Found → Type 0) (files : List DropFile) (
 
   -- a regular file with the base has one of the names
   pub has_name : SeesAll files from → (file : DropFile) → Contains files file → is_namesake listed file ≡ true
-      → (name : Namesake) × Contains all name × Has name.file file × (name.number ≡ file.number)
+      → (name : Namesake) × Contains all name × Has name.file file × (name.stamp ≡ file.stamp)
   has_name sees file there is =
       let parts = namesake_then listed file is in
       let s = All-contains (λ f. (s : PlacedFile) × Contains from s × (folder_and_name s ≡ file_place f)) files file sees there in
@@ -207,7 +207,7 @@ module _ (found : FileWay → Option Found → Type 0) (files : List DropFile) (
       (λ some. let bears = bearer some.0 some.1 in
       let has : Has some.0.file file = (some.2.0.0 ∙ folder, some.2.0.1 ∙ name) in
       let same = same_there files some.0.file bears.0 file whole bears.1 there bears.2 has in
-      (some.0, some.1, has, bears.4 ∙ ap (λ f. f.number) same)) was
+      (some.0, some.1, has, bears.4 ∙ ap (λ f. f.stamp) same)) was
 
   -- if all names are gone, none of these files is left
   pub none_left : SeesAll files from → (P : DropFile → Type 0) (new : List DropFile) → LacksSome P files new
@@ -219,18 +219,21 @@ module _ (found : FileWay → Option Found → Type 0) (files : List DropFile) (
       All-contains (λ f. IsWayTo named.0.file (file_place f) → ⊥) new file
       (All-contains (λ n. Bears new n.file None) all named.0 gone named.1) there named.2)
 
+  number_of : (a b : Stamp) → a ≡ b → a.number ≡ b.number
+  number_of a b same = ap (λ (s : Stamp). s.number) same
+
   -- the files with names that may go have the octets of the listed one
   goes_same : {File : Type 0} (remaining : File → Option (List ℕ)) (opened : FileWay → FileNumber → File → Type 0)
       → ((way : FileWay) (number : FileNumber) (file : File) → opened way number file → HasOctetsOf remaining files number file)
-      → (own name : Namesake) (o a : DropFile) → Contains files o → Contains files a → own.number ≡ o.number → name.number ≡ a.number
+      → (own name : Namesake) (o a : DropFile) → Contains files o → Contains files a → own.stamp ≡ o.stamp → name.stamp ≡ a.stamp
       → MayGo remaining opened own name → a.content ≡ o.content
-  goes_same remaining opened reads own name o a own_there there number named (inl same) =
-      whole.one a o there own_there (sym named ∙ same ∙ number)
-  goes_same remaining opened reads own name o a own_there there number named (inr were) =
-      let octets = All-contains (λ f. f.number ≡ name.number → remaining were.2.0 ≡ Some f.content) files a
-      (reads name.file name.number were.2.0 were.2.1) there (sym named) in
-      let other = All-contains (λ f. f.number ≡ own.number → remaining were.3.0 ≡ Some f.content) files o
-      (reads own.file own.number were.3.0 were.3.1) own_there (sym number) in
+  goes_same remaining opened reads own name o a own_there there owned named (inl same) =
+      whole.one a o there own_there (number_of a.stamp name.stamp (sym named) ∙ same ∙ number_of own.stamp o.stamp owned)
+  goes_same remaining opened reads own name o a own_there there owned named (inr were) =
+      let octets = All-contains (λ f. f.stamp.number ≡ name.stamp.number → remaining were.2.0 ≡ Some f.content) files a
+      (reads name.file name.stamp.number were.2.0 were.2.1) there (number_of a.stamp name.stamp (sym named)) in
+      let other = All-contains (λ f. f.stamp.number ≡ own.stamp.number → remaining were.3.0 ≡ Some f.content) files o
+      (reads own.file own.stamp.number were.3.0 were.3.1) own_there (number_of o.stamp own.stamp (sym owned)) in
       (were.4 a.content o.content (sym were.2.2 ∙ octets) (sym were.3.2 ∙ other)).0 refl
 
   pub are_copies : {File : Type 0} (remaining : File → Option (List ℕ)) (opened : FileWay → FileNumber → File → Type 0)
@@ -247,12 +250,13 @@ module _ (found : FileWay → Option Found → Type 0) (files : List DropFile) (
   -- what is taken away of these names
   pub takes_copies : {File : Type 0} (remaining : File → Option (List ℕ)) (opened : FileWay → FileNumber → File → Type 0)
       → ((way : FileWay) (number : FileNumber) (file : File) → opened way number file → HasOctetsOf remaining files number file)
-      → SeesAll files from → (own : Namesake) → Contains all own → (new : List DropFile) → LacksSome (BearsOne all) files new
-      → (new ≡ files) ⊎ All (MayGo remaining opened own) all → TakesCopies listed files new
-  takes_copies remaining opened reads sees own among new lacks (inl same) = inl same
-  takes_copies remaining opened reads sees own among new lacks (inr may) = inr (
+      → SeesAll files from → (own : Namesake) → Contains all own → own.stamp ≡ listed.stamp → (new : List DropFile)
+      → LacksSome (BearsOne all) files new → (new ≡ files) ⊎ All (MayGo remaining opened own) all → TakesCopies listed files new
+  takes_copies remaining opened reads sees own among is new lacks (inl same) = inl same
+  takes_copies remaining opened reads sees own among is new lacks (inr may) = let bears = bearer own among in inr (
     are_copies remaining opened reads sees own among may,
     lacks_by (BearsOne all) (λ (file : DropFile). is_namesake listed file ≡ true) files new named_has_base lacks,
+    (bears.0, bears.1, namesake_if listed bears.0 bears.3 bears.5, sym bears.4 ∙ is),
   )
 
   pub told_instead : SeesAll files from → (told : Option TwoMessages) → TellsInstead all told
@@ -267,7 +271,7 @@ module _ (found : FileWay → Option Found → Type 0) (files : List DropFile) (
       → (told : Option TwoMessages) → RemovesWith remaining opened removed own all told
       → IfNone told (All (λ (file : DropFile). is_namesake listed file ≡ false) new)
   told_with remaining opened removed own new sees lacks gone None all_went = none_left sees (BearsOne all) new lacks
-      (λ k d within. gone (get_or all k d).file (get_or all k d).number (all_went.1 k d within))
+      (λ k d within. gone (get_or all k d).file (get_or all k d).stamp.number (all_went.1 k d within))
   told_with remaining opened removed own new sees lacks gone (Some two) told = tt
 
 -- ---- one try after another
@@ -278,10 +282,12 @@ copies_then listed old mid new (inl same) then = subst (λ files. TakesCopies li
 copies_then listed old mid new (inr one) (inl same) = inr (
   one.0,
   subst (LacksSome (λ (file : DropFile). is_namesake listed file ≡ true) old) (sym same) one.1,
+  one.2,
 )
 copies_then listed old mid new (inr one) (inr other) = inr (
   one.0,
   lacks_then (λ (file : DropFile). is_namesake listed file ≡ true) old mid new one.1 other.1,
+  one.2,
 )
 
 pub sees_left : (listed : ListedFile) (old new : List DropFile) (seen : List PlacedFile) → TakesCopies listed old new

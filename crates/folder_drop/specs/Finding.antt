@@ -10,8 +10,8 @@ use Rattle.pop3_server.specs.{Maildrop.max_size, Size.{capped, size_of}}
 use Rattle.folder_drop.specs.{
   declared.{
     listed_file.ListedFile.ListedFile,
-    mail_files.{FileNumber.FileNumber, FileWay.FileWay, Found.Found},
-    maildir_names.{Folder.Folder, PlacedFile.PlacedFile, Stamp.Stamp},
+    mail_files.{FileWay.FileWay, Found.Found},
+    maildir_names.{FileNumber.FileNumber, Folder.Folder, PlacedFile.PlacedFile, Stamp.Stamp},
     seen_files.SeenFiles.SeenFiles,
   },
   Places.IsWayTo,
@@ -48,7 +48,7 @@ TellsStamp found listed seen place None = ((now : FileWay × Found) × IsFoundNo
 abbrev pub IsOpenNow : {File : Type 0} → (FileWay → Option Found → Type 0) → (FileWay → FileNumber → File → Type 0)
     → Folder × List ℕ → File → Type 0
 IsOpenNow found opened place file = (now : FileWay × Found) × IsFoundNow found place now
-    × (now.1.is_regular ≡ true) × opened now.0 now.1.number file
+    × (now.1.is_regular ≡ true) × opened now.0 now.1.stamp.number file
 
 -- the same of the file of a listed message
 abbrev pub IsOpenAt : {File : Type 0} → (FileWay → Option Found → Type 0) → (FileWay → FileNumber → File → Type 0)

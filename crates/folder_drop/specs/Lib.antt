@@ -9,10 +9,10 @@ pub mod MaildirNames
 pub mod MemoryFiles
 pub mod MemoryLaws
 pub mod MemoryNames
-pub mod OpenFolder
 pub mod OpenText
 pub mod Places
 pub mod RealMaildir
 pub mod Removal
+pub mod SafeMaildir
 pub mod SameOctets
 pub mod SeenFiles

@@ -11,8 +11,8 @@ use Rattle.folder_drop.specs.{
   declared.{
     folders_look.FoldersLook.FoldersLook,
     listed_file.ListedFile.ListedFile,
-    mail_files.{FileNumber.FileNumber, FileWay.FileWay, Found.Found},
-    maildir_names.{PlacedFile.PlacedFile, Stamp.Stamp},
+    mail_files.{FileWay.FileWay, Found.Found},
+    maildir_names.{FileNumber.FileNumber, PlacedFile.PlacedFile, Stamp.Stamp},
     seen_files.SeenFiles.SeenFiles,
   },
   CountedSizes.WasCounted,

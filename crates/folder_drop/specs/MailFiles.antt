@@ -8,8 +8,8 @@ use Rattle.mail_terms.specs.Distinct.{AreDistinct}
 use Rattle.folder_drop.specs.{
   declared.{
     folders_look.FoldersLook.FoldersLook,
-    mail_files.{FileNumber.FileNumber, FileWay.FileWay, Found.Found},
-    maildir_names.{Folder.Folder, PlacedFile.PlacedFile, Stamp.Stamp},
+    mail_files.{FileWay.FileWay, Found.Found},
+    maildir_names.{FileNumber.FileNumber, Folder.Folder, PlacedFile.PlacedFile, Stamp.Stamp},
   },
   Places.{IsWayTo, folder_and_name, rank},
 }
@@ -19,7 +19,6 @@ pub record DropFile : Type 0 where
   pub folder : Folder
   pub name : List ℕ
   pub is_regular : Bool
-  pub number : FileNumber
   pub stamp : Stamp
   pub content : List ℕ
 
@@ -29,7 +28,8 @@ file_place file = (file.folder, file.name)
 -- no two are in one place, and names of one file have the same octets
 pub record AreMailFiles (files : List DropFile) : Type 0 where
   pub distinct : AreDistinct (map file_place files)
-  pub one : (a b : DropFile) → Contains files a → Contains files b → a.number ≡ b.number → a.content ≡ b.content
+  pub one : (a b : DropFile) → Contains files a → Contains files b → a.stamp.number ≡ b.stamp.number
+      → a.content ≡ b.content
 
 -- it is in this place
 abbrev pub is_in_place : Folder × List ℕ → DropFile → Bool
@@ -45,7 +45,6 @@ pub record HasFile (files : List DropFile) (way : FileWay) (what : Found) : Type
   pub there : Contains files file
   pub leads : IsWayTo way (file_place file)
   pub regular : what.is_regular ≡ file.is_regular
-  pub number : what.number ≡ file.number
   pub stamp : what.stamp ≡ file.stamp
 
 -- this bears the name, or nothing does
@@ -56,18 +55,18 @@ Bears files way None = All (λ (file : DropFile). IsWayTo way (file_place file) 
 -- the regular file of this number was found to bear the name
 abbrev pub FoundRegular : (FileWay → Option Found → Type 0) → FileWay → FileNumber → Type 0
 FoundRegular found way number = (what : Found) × found way (Some what) × (what.is_regular ≡ true)
-    × (what.number ≡ number)
+    × (what.stamp.number ≡ number)
 
 -- if this is a regular file, what was opened under a name is known to be that
 abbrev pub TellsHandle : {File : Type 0} → (FileWay → File → Type 0) → (FileWay → FileNumber → File → Type 0) → File
     → Found → Type 0
 TellsHandle gave opened file what = what.is_regular ≡ true → (way : FileWay) → gave way file
-    → opened way what.number file
+    → opened way what.stamp.number file
 
 -- a handle has the octets of the file of this number, if that is there
 abbrev pub HasOctetsOf : {File : Type 0} → (File → Option (List ℕ)) → List DropFile → FileNumber → File → Type 0
 HasOctetsOf remaining files number handle =
-    All (λ (file : DropFile). file.number ≡ number → remaining handle ≡ Some file.content) files
+    All (λ (file : DropFile). file.stamp.number ≡ number → remaining handle ≡ Some file.content) files
 
 -- it is the Maildir at the same path, and each look at the folders that was made is known still
 pub record Stays {D : Type 0} (path : D → List ℕ) (looked : D → FoldersLook → List DropFile → Type 0) (old new : D)

@@ -1,6 +1,6 @@
 -- The folders of a Maildir, and the unique-id for a file's name.
 use Rattle.std.specs.{
-  Prelude.{◌≡◌, ◌≢◌, ◌==◌, ◌&&◌, ℕ, Bool, not, List, Option, None, Some, Vec, codes, length, if◌then◌else◌},
+  Prelude.{◌≡◌, ◌≢◌, ◌==◌, ◌&&◌, ◌++◌, ℕ, Bool, not, List, Option, None, Some, Vec, codes, length, if◌then◌else◌},
   List.list_any,
 }
 use Rattle.hex.specs.Hex.{encode_lower}
@@ -12,6 +12,10 @@ use Rattle.folder_drop.specs.declared.maildir_names.Folder.{Folder, TheVariants.
 abbrev pub folder_name : Folder → List ℕ
 folder_name Cur = codes "cur"
 folder_name New = codes "new"
+
+-- the path of a folder of the Maildir at a path
+abbrev pub maildir_folder : List ℕ → Folder → List ℕ
+maildir_folder maildir folder = maildir ++ (codes "/" ++ folder_name folder)
 
 -- a listing may tell a name: it isn't hidden, and no slash in it leads into another folder
 abbrev pub is_listable_name : List ℕ → Bool

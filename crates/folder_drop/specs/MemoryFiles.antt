@@ -11,7 +11,7 @@ use Rattle.folder_drop.specs.{
   declared.{
     folders_look.FoldersLook.FoldersLook,
     mail_files.{FileWay.FileWay, Found.Found},
-    maildir_names.Folder.Folder,
+    maildir_names.{Folder.Folder, Stamp.Stamp},
     memory_files.{MemoryFile.MemoryFile, MemoryFiles.MemoryFiles, MemoryHandle.MemoryHandle},
     memory_names.{MemoryName.MemoryName, MemoryNames.MemoryNames},
   },
@@ -24,12 +24,20 @@ use Rattle.folder_drop.specs.{
 abbrev pub octets_at : List MemoryFile → ℕ → List ℕ
 octets_at files file = slice_index_or (map (λ (f : MemoryFile). f.content.now) files) file []
 
+-- the stamp of the file of this number with these octets
+abbrev pub stamp_at : ℕ → List ℕ → Stamp
+stamp_at file octets = record {
+  number = record { device = 0; inode = file };
+  length = length octets;
+  seconds = 0;
+  nanoseconds = 0;
+}
+
 -- what a look at a file tells
 abbrev pub found_at : List MemoryFile → ℕ → Found
 found_at files file = record {
   is_regular = slice_index_or (map (λ (f : MemoryFile). f.is_regular) files) file false;
-  number = record { device = 0; inode = file };
-  stamp = record { length = length (octets_at files file); seconds = file; nanoseconds = 0 };
+  stamp = stamp_at file (octets_at files file);
 }
 
 -- what has a name
@@ -38,7 +46,6 @@ file_named files one = record {
   folder = one.folder;
   name = one.name.now;
   is_regular = (found_at files one.file).is_regular;
-  number = (found_at files one.file).number;
   stamp = (found_at files one.file).stamp;
   content = octets_at files one.file;
 }
@@ -82,8 +89,7 @@ file_put d place is_regular content = record {
   folder = place.0;
   name = place.1;
   is_regular = is_regular;
-  number = record { device = 0; inode = length d.files.items };
-  stamp = record { length = length content; seconds = length d.files.items; nanoseconds = 0 };
+  stamp = stamp_at (length d.files.items) content;
   content = content;
 }
 

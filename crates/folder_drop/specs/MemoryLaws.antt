@@ -14,8 +14,7 @@ use Rattle.mail_terms.specs.Distinct.{AreDistinct}
 use Rattle.folder_drop.specs.{
   declared.{
     folders_look.FoldersLook.FoldersLook,
-    mail_files.FileNumber.FileNumber,
-    maildir_names.{Folder.Folder, Stamp.Stamp},
+    maildir_names.{FileNumber.FileNumber, Folder.Folder, Stamp.Stamp},
     memory_files.{MemoryFile.MemoryFile, MemoryFiles.MemoryFiles},
     memory_names.MemoryName.MemoryName,
   },
@@ -39,15 +38,9 @@ pub places : (d : MemoryFiles) → map file_place (mail_files d) ≡ map place_o
 places d = map-map file_place (file_named d.files.items) d.names.items.items
 
 pub content_by_number : (files : List MemoryFile) (names : List MemoryName) (file : DropFile)
-    → Contains (map (file_named files) names) file → file.content ≡ octets_at files file.number.inode
+    → Contains (map (file_named files) names) file → file.content ≡ octets_at files file.stamp.number.inode
 content_by_number files names file there =
-    let P : DropFile → Type 0 = λ f. f.content ≡ octets_at files f.number.inode in
-    All-contains P (map (file_named files) names) file (All-map P (file_named files) names (λ k d within. refl)) there
-
-content_by_stamp : (files : List MemoryFile) (names : List MemoryName) (file : DropFile)
-    → Contains (map (file_named files) names) file → file.content ≡ octets_at files file.stamp.seconds
-content_by_stamp files names file there =
-    let P : DropFile → Type 0 = λ f. f.content ≡ octets_at files f.stamp.seconds in
+    let P : DropFile → Type 0 = λ f. f.content ≡ octets_at files f.stamp.number.inode in
     All-contains P (map (file_named files) names) file (All-map P (file_named files) names (λ k d within. refl)) there
 
 pub keeps_content : (d : MemoryFiles) (look : FoldersLook) (was : List DropFile) (file before : DropFile)
@@ -55,8 +48,8 @@ pub keeps_content : (d : MemoryFiles) (look : FoldersLook) (was : List DropFile)
     → file.content ≡ before.content
 keeps_content d look was file before looked there had same =
     let files = d.files.items in
-    content_by_stamp files d.names.items.items file there ∙ ap (λ (s : Stamp). octets_at files s.seconds) same
-    ∙ sym (content_by_stamp files (names_after looked.0 d) before
+    content_by_number files d.names.items.items file there ∙ ap (λ (s : Stamp). octets_at files s.number.inode) same
+    ∙ sym (content_by_number files (names_after looked.0 d) before
     (subst (λ (l : List DropFile). Contains l before) looked.3 had))
 
 pub rests_so : (d : MemoryFiles) (earlier later : FoldersLook) (was now : List DropFile) → HasLooked d earlier was

@@ -1,6 +1,7 @@
--- Which files are removed with a message: all with its base, if each is the listed file or has its octets; else none.
+-- Which files are removed with a message: all with its base, if the listed file is one of them and each is that file or
+-- has its octets; else none.
 use Rattle.std.specs.{
-  Prelude.{◌≡◌, ◌≢◌, ◌↔◌, ◌⊎◌, ◌<◌, ◌∷◌, ℕ, Bool, true, false, List, [], Option, None, Some, IsTrue, length},
+  Prelude.{◌≡◌, ◌≢◌, ◌⊎◌, ◌<◌, ◌∷◌, ℕ, Bool, true, false, List, [], Option, None, Some, length},
   Prelude.{IfNone, IfOk, Result},
   String.string_bytes,
   List.{All, Contains, HoldsAt},
@@ -9,8 +10,8 @@ use Rattle.mail_terms.specs.MaildirName.{base}
 use Rattle.folder_drop.specs.{
   declared.{
     listed_file.ListedFile.ListedFile,
-    mail_files.{FileNumber.FileNumber, FileWay.FileWay, Found.Found},
-    maildir_names.{PlacedFile.PlacedFile, Stamp.Stamp},
+    mail_files.{FileWay.FileWay, Found.Found},
+    maildir_names.{FileNumber.FileNumber, PlacedFile.PlacedFile, Stamp.Stamp},
     removal.{Namesake.Namesake, TwoMessages.TwoMessages},
     seen_files.SeenFiles.SeenFiles,
   },
@@ -30,27 +31,9 @@ WereSeen listed seen files = (files ≡ those_seen seen.files) ⊎ listed files
 abbrev pub WereSeenSince : (List PlacedFile → Type 0) → SeenFiles → List PlacedFile → Type 0
 WereSeenSince listed seen files = ((seen.are_removed ≡ true) × (files ≡ those_seen seen.files)) ⊎ listed files
 
--- the file is where the message was listed
-abbrev pub IsInPlace : Namesake → Type 0
-IsInPlace file = file.is_in_place ≡ true
-
--- none of the files is
-abbrev pub NoneIsInPlace : List Namesake → Type 0
-NoneIsInPlace files = All (λ (file : Namesake). file.is_in_place ≡ false) files
-
--- the file has this length and time of modification
+-- the file is the one that was listed with this number, length and time of modification, wherever it is now
 abbrev pub HasStamp : Stamp → Namesake → Type 0
 HasStamp stamp file = file.stamp ≡ stamp
-
--- the file at this place is the listed one: it is where the message was listed, or none is, and it has the length and
--- time of modification that the listed one had
-abbrev pub IsListedAt : List Namesake → Stamp → ℕ → Type 0
-IsListedAt files stamp i = (i < length files)
-    × (HoldsAt IsInPlace files i ⊎ (NoneIsInPlace files × HoldsAt (HasStamp stamp) files i))
-
--- none of the files is the listed one
-abbrev pub NoneIsListed : List Namesake → Stamp → Type 0
-NoneIsListed files stamp = NoneIsInPlace files × All (λ (file : Namesake). file.stamp ≢ stamp) files
 
 -- the file is in the place where the message was listed
 abbrev pub IsPlaceOf : ListedFile → PlacedFile → Type 0
@@ -60,9 +43,7 @@ IsPlaceOf listed file = (listed.folder ≡ file.folder) × (listed_name listed �
 -- in the message's own place
 abbrev pub IsNamesake : (FileWay → Option Found → Type 0) → ListedFile → PlacedFile → Option Namesake → Type 0
 IsNamesake found listed seen (Some file) = IsWayTo file.file (folder_and_name seen)
-    × (IsTrue file.is_in_place ↔ IsPlaceOf listed seen)
-    × ((what : Found) × found file.file (Some what) × (what.is_regular ≡ true) × (file.number ≡ what.number)
-    × (file.stamp ≡ what.stamp))
+    × ((what : Found) × found file.file (Some what) × (what.is_regular ≡ true) × (file.stamp ≡ what.stamp))
 IsNamesake found listed seen None = (way : FileWay) × (other : Found) × IsWayTo way (folder_and_name seen)
     × found way (Some other) × (other.is_regular ≡ false) × (IsPlaceOf listed seen → ⊥)
 
@@ -82,7 +63,7 @@ if_any (Some file) = file ∷ []
 -- the file was opened, and has these octets left
 abbrev pub WasRead : {File : Type 0} → (File → Option (List ℕ)) → (FileWay → FileNumber → File → Type 0) → Namesake
     → Option (List ℕ) → Type 0
-WasRead {File} remaining opened file octets = (handle : File) × opened file.file file.number handle
+WasRead {File} remaining opened file octets = (handle : File) × opened file.file file.stamp.number handle
     × (remaining handle ≡ octets)
 
 -- both files were read, and this is whether their octets are the same
@@ -94,18 +75,20 @@ WereCompared remaining opened listed file same = (own : Option (List ℕ)) × (o
 -- the file is the listed one under some name, or was read and has its octets
 abbrev pub MayGo : {File : Type 0} → (File → Option (List ℕ)) → (FileWay → FileNumber → File → Type 0) → Namesake
     → Namesake → Type 0
-MayGo remaining opened listed file = (file.number ≡ listed.number) ⊎ WereCompared remaining opened listed file true
+MayGo remaining opened listed file =
+    (file.stamp.number ≡ listed.stamp.number) ⊎ WereCompared remaining opened listed file true
 
 -- the file is another one, and was read and doesn't have its octets
 abbrev pub IsOther : {File : Type 0} → (File → Option (List ℕ)) → (FileWay → FileNumber → File → Type 0) → Namesake
     → Namesake → Type 0
-IsOther remaining opened listed file = (file.number ≢ listed.number) × WereCompared remaining opened listed file false
+IsOther remaining opened listed file =
+    (file.stamp.number ≢ listed.stamp.number) × WereCompared remaining opened listed file false
 
 -- all files go with the listed one, and are removed; or one of them is another message, which is told
 abbrev pub RemovesWith : {File : Type 0} → (File → Option (List ℕ)) → (FileWay → FileNumber → File → Type 0)
     → (FileWay → FileNumber → Type 0) → Namesake → List Namesake → Option TwoMessages → Type 0
 RemovesWith remaining opened removed listed files None =
-    All (MayGo remaining opened listed) files × All (λ (file : Namesake). removed file.file file.number) files
+    All (MayGo remaining opened listed) files × All (λ (file : Namesake). removed file.file file.stamp.number) files
 RemovesWith remaining opened removed listed files (Some two) = (string_bytes two.listed ≡ string_bytes listed.file.path)
     × ((other : Namesake) × Contains files other × IsOther remaining opened listed other
     × (string_bytes two.other ≡ string_bytes other.file.path))
@@ -123,9 +106,9 @@ pub record RemovesSeen {File : Type 0} (remaining : File → Option (List ℕ)) 
     (seen : List PlacedFile) (told : Option TwoMessages) : Type 0 where
   pub files : List Namesake
   pub are : AreNamesakes found listed seen files
-  pub gone : ((i : ℕ) × IsListedAt files listed.stamp i
+  pub gone : ((i : ℕ) × (i < length files) × HoldsAt (HasStamp listed.stamp) files i
       × HoldsAt (λ own. RemovesWith remaining opened removed own files told) files i)
-      ⊎ (NoneIsListed files listed.stamp × TellsInstead files told)
+      ⊎ (All (λ (file : Namesake). file.stamp ≢ listed.stamp) files × TellsInstead files told)
 
 -- a listed message is removed, or isn't, with those of the files of a look that have its base
 pub record RemovesMessage {File : Type 0} (remaining : File → Option (List ℕ)) (found : FileWay → Option Found → Type 0)
@@ -157,10 +140,18 @@ abbrev pub AreCopies : ListedFile → List DropFile → Type 0
 AreCopies listed files = (a b : DropFile) → Contains files a → Contains files b → is_namesake listed a ≡ true
     → is_namesake listed b ≡ true → a.content ≡ b.content
 
--- nothing went; or only regular files with the base of a listed one, all of which have the same octets
+-- the file that was listed is there, maybe under another name with its base: the one of its number, length and time of
+-- modification
+abbrev pub HasListedFile : ListedFile → List DropFile → Type 0
+HasListedFile listed files = (file : DropFile) × Contains files file × (is_namesake listed file ≡ true)
+    × (file.stamp ≡ listed.stamp)
+
+-- nothing went; or only regular files with the base of a listed one, all of which have the same octets, and one of
+-- which is the file that was listed
 abbrev pub TakesCopies : ListedFile → List DropFile → List DropFile → Type 0
 TakesCopies listed old new = (new ≡ old)
-    ⊎ (AreCopies listed old × LacksSome (λ (file : DropFile). is_namesake listed file ≡ true) old new)
+    ⊎ (AreCopies listed old × LacksSome (λ (file : DropFile). is_namesake listed file ≡ true) old new
+    × HasListedFile listed old)
 
 -- that; and if the listed one is removed, no regular file with its base is left
 abbrev pub TakesMessage : {E : Type 0} → ListedFile → List DropFile → Result (Option TwoMessages) E → List DropFile

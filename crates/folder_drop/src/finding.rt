@@ -8,8 +8,8 @@ ghost use Rattle.folder_drop.specs.{
 };
 
 use crate::listed_file::count_size;
-use crate::mail_files::{FileNumber, FileWay, Found, MailFiles};
-use crate::maildir_names::{Folder, PlacedFile, Stamp};
+use crate::mail_files::{FileWay, Found, MailFiles};
+use crate::maildir_names::{FileNumber, Folder, PlacedFile, Stamp};
 use crate::removal::NOT_REGULAR;
 use crate::seen_files::SeenFiles;
 use mail_terms::base;
@@ -146,7 +146,7 @@ pub fn open<D: MailFiles>(
         if !found.is_regular {
             return Err(files.refuse(&file, NOT_REGULAR));
         }
-        match open_regular(files, &file, found.number) {
+        match open_regular(files, &file, found.stamp.number) {
             Ok(opened) => return Ok(Some(opened)),
             Err(error) if error.kind() == ErrorKind::NotFound => {}
             Err(error) => return Err(error),

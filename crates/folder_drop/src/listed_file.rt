@@ -8,7 +8,7 @@ ghost use Rattle.mail_terms.specs.MaildirName.{base as base_of};
 ghost use Rattle.pop3_server.specs.Size.{capped, size_of};
 ghost use Rattle.folder_drop.specs.{CountedSizes.{ComeFrom, WasCounted}, RealMaildir.listed_name};
 
-use crate::maildir_names::{Folder, PlacedFile, Stamp};
+use crate::maildir_names::{FileNumber, Folder, PlacedFile, Stamp};
 use mail_terms::base;
 use pop3_server::SizeCount;
 use std::fs::Metadata;
@@ -18,8 +18,8 @@ use std::time::{Duration, UNIX_EPOCH};
 /// How many octets of a file are read at a time.
 pub const PIECE: usize = 65_536;
 
-/// The place of a listed message's file, its length and time of modification when its size was counted, and that size,
-/// with each line's end counted as two octets.
+/// The place of a listed message's file, its stamp when its size was counted, and that size, with each line's end
+/// counted as two octets.
 #[derive(Drop)]
 pub struct ListedFile {
     pub folder: Folder,
@@ -82,7 +82,11 @@ pub fn stamp_of(metadata: &Metadata) -> Stamp
         Ok(modified) => modified.duration_since(UNIX_EPOCH).ok(),
         Err(_) => None,
     };
-    Stamp::at(metadata.len(), passed.unwrap_or(Duration::ZERO))
+    Stamp::at(
+        FileNumber::of(metadata),
+        metadata.len(),
+        passed.unwrap_or(Duration::ZERO),
+    )
 }
 
 /// Sizes that were counted for an earlier listing, in the order in which files are listed. They have to

@@ -4,35 +4,16 @@ ghost use Rattle.folder_drop.specs.MaildirNames.{is_listable_name};
 
 use crate::folders_look::FoldersLook;
 use crate::listed_file::stamp_of;
-use crate::maildir_names::{Folder, PlacedFile, Stamp};
+use crate::maildir_names::{FileNumber, Folder, PlacedFile, Stamp};
 use std::alloc::Global;
 use std::fs::Metadata;
 use std::hash::RandomState;
 use std::io::{self, ErrorKind, Read};
-use std::os::unix::fs::MetadataExt;
-
-/// Which file it is: its device, and its number there. All names of a file have the same.
-#[derive(Clone, Copy, PartialEq, Eq)]
-pub struct FileNumber {
-    pub device: u64,
-    pub inode: u64,
-}
-
-impl FileNumber {
-    /// The number of the file that the system reports this of.
-    pub fn of(metadata: &Metadata) -> FileNumber {
-        FileNumber {
-            device: metadata.dev(),
-            inode: metadata.ino(),
-        }
-    }
-}
 
 /// What bears a name in a folder.
 #[derive(Clone, Copy)]
 pub struct Found {
     pub is_regular: bool,
-    pub number: FileNumber,
     pub stamp: Stamp,
 }
 
@@ -46,16 +27,15 @@ impl Found {
     {
         Found {
             is_regular: metadata.is_file(),
-            number: FileNumber::of(metadata),
             stamp: stamp_of(metadata),
         }
     }
 
     /// NotFound if it is something else than the regular file of this number.
     pub fn check(&self, number: FileNumber) -> io::Result<()>
-        ensures { OnOk result ((self.now.is_regular ≡ true) × (self.now.number ≡ number)) }
+        ensures { OnOk result ((self.now.is_regular ≡ true) × (self.now.stamp.number ≡ number)) }
     {
-        if self.is_regular && self.number == number {
+        if self.is_regular && self.stamp.number == number {
             return Ok(());
         }
         Err(io::Error::from(ErrorKind::NotFound))
@@ -67,10 +47,7 @@ impl Found {
 pub struct FileWay {
     pub folder: Folder,
     pub name: String,
-    /// Its path, by which it is named.
     pub path: String,
-    /// A path that leads to it through the open folder.
-    pub way: String,
     ghost listable: { is_listable_name (string_bytes name) ≡ true },
 }
 
@@ -81,8 +58,8 @@ pub trait MailFiles {
     ghost use Rattle.folder_drop.specs.{
       declared.{
         folders_look.FoldersLook.FoldersLook,
-        mail_files.{FileNumber.FileNumber, FileWay.FileWay, Found.Found},
-        maildir_names.PlacedFile.PlacedFile,
+        mail_files.{FileWay.FileWay, Found.Found},
+        maildir_names.{FileNumber.FileNumber, PlacedFile.PlacedFile},
       },
       Finding.LooksUp,
       FoldersLook.IsUnchanged,
@@ -115,10 +92,9 @@ pub trait MailFiles {
     // `close` it is what the next look will find.
     ghost files: { Self → List DropFile };
 
-    // The premise: the system does what its calls promise, with /proc mounted, `new` and `cur` are two folders, and a
-    // device and a number are those of one file. From a look to the next `close` nobody but this server changes the
-    // Maildir. At no time does anybody change a file in place, or give a file the name, length and time of modification
-    // that another one had.
+    // The premise: the system does what its calls promise, `new` and `cur` are two folders, and a device and a number
+    // are those of one file. From a look to the next `close` nobody but this server changes the Maildir. Nobody ever
+    // changes a file in place, or gives a file the name, number, length and time of modification that another one had.
     ghost sound: { Self → Type 0 };
 
     // It looked at the folders so when these files were there.
@@ -130,13 +106,13 @@ pub trait MailFiles {
     /// A hasher of its own. Random, since the names of files may come from ids that a server chose.
     fn hasher(&self) -> io::Result<RandomState>;
 
-    /// A look at both folders: clock_gettime(2), and of each open(2), and stat(2) of what was opened.
+    /// A look at both folders: clock_gettime(2), and stat(2) of each.
     fn look(&mut self) -> io::Result<FoldersLook>
         ensures stays { Stays path looked self.old self.new }
         ensures looks { sound self.new → sound self.old
             × Looks (files self.old) result (files self.new) (looked self.new) };
 
-    /// Closes both folders.
+    /// The session is over: others may change the Maildir until the next look.
     fn close(&mut self)
         ensures stays { Stays path looked self.old self.new }
         ensures kept { sound self.new → sound self.old };
@@ -155,7 +131,7 @@ pub trait MailFiles {
     fn look_up(&self, file: &FileWay) -> io::Result<Found>
         ensures { LooksUp (found self.now file.now) result };
 
-    /// open(2) of what bears a name, under which a regular file was found; again if the file system is read-only.
+    /// open(2) of what bears a name, under which a regular file was found.
     fn open(&self, file: &FileWay) -> io::Result<Self::File>
         requires { (number : FileNumber) × FoundRegular (found self.now) file.now number }
         ensures { IfOk result (gave self.now file.now) };
@@ -193,7 +169,7 @@ pub trait MailFiles {
     ghost reads: { (d : Self) (way : FileWay) (number : FileNumber) (file : Self.File) → sound d
         → opened d way number file → HasOctetsOf Self.File.remaining (files d) number file };
 
-    // A file that has the name, length and time of modification that one had at a look has the octets of that one.
+    // A file that has the name, number, length and time of modification that one had at a look has the octets of that.
     ghost keeps: { (d : Self) (look : FoldersLook) (was : List DropFile) (file before : DropFile) → sound d
         → looked d look was → Contains (files d) file → Contains was before → file_place file ≡ file_place before
         → file.stamp ≡ before.stamp → file.content ≡ before.content };

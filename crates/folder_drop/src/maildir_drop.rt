@@ -23,6 +23,7 @@ use crate::removal::TwoMessages;
 use mail_terms::FailureCount;
 use pop3_server::{DropFault, Entry, MAX_COUNT, Maildrop};
 use std::alloc::Global;
+use std::env::Env;
 use std::io::{self, ErrorKind};
 use std::marker::Model;
 use std::random::RandomSource;
@@ -73,7 +74,7 @@ impl<D: MailFiles> Model for FilesDrop<D> {
 
 impl<'a, R> FilesDrop<MaildirFolders<'a, R>>
 where
-    R: Files + Clock + RandomSource + AllocGlobal + Clone + Drop,
+    R: Files + Env + Clock + RandomSource + AllocGlobal + Clone + Drop,
 {
     /// The maildrop of the Maildir at this path, which must have the folders `new` and `cur`.
     pub fn at(system: &'a System<'a, R>, path: String) -> FilesDrop<MaildirFolders<'a, R>>

@@ -1,23 +1,24 @@
 //! The two folders of a Maildir whose files are messages.
 ghost use Rattle.std.specs.{
   List.Sorted.IsPermutation,
-  Option.ForSome,
-  Prelude.{◌≡◌, ◌++◌, [], IfOk, OnOk, map, string_bytes},
+  Prelude.{◌≡◌, ◌++◌, [], IfOk, OnOk, codes, map, string_bytes},
 };
 ghost use Rattle.folder_drop.specs.{
   declared.maildir_names.Folder.TheVariants.{Cur, New},
   MaildirNames.folder_name,
-  OpenFolder.{IsMaildirFolder, within},
   Places.{AreInOrder, folder_and_name, place_cmp, named_in},
 };
 
 use crate::folders_look::FoldersLook;
 use crate::mail_files::{FileWay, Found, MailFiles};
-use crate::maildir_names::{Folder, PlacedFile};
-use crate::open_folder::{OPEN_FILES, OpenFolder};
-use folder_store::{HostFolders, ProcessMark, Sought, list_both};
+use crate::maildir_names::{FileNumber, Folder, PlacedFile, check_name, folder_path};
+use crate::safe_maildir::check_maildir;
+use folder_store::{ChangeTime, HostFolders, ProcessMark, Sought, list_both};
+use safe_path::PathRefused;
 use std::alloc::{AllocError, Global};
-use std::fs::OpenFile;
+use std::env::Env;
+use std::fs;
+use std::fs::{Metadata, OpenFile};
 use std::hash::RandomState;
 use std::io::{self, ErrorKind, Seek, SeekFrom};
 use std::random::RandomSource;
@@ -25,24 +26,20 @@ use std::rt::Files;
 use std::time::Clock;
 use system_calls::{Noted, System};
 
+/// Why a folder isn't used.
+const REPLACED: &str = "another folder is in its place";
+
+/// Why the superuser doesn't use what is on the way to a folder.
+const OF_OTHERS: &str = "others than the superuser control it";
+
 /// The folders `new` and `cur` of the Maildir at a path. What they hold is no part of this value, so that no clause may
 /// say that a call leaves it as it was: only its path stays.
 #[derive(Drop)]
 pub struct MaildirFolders<'a, R: Files + AllocGlobal + Clone + Drop> {
     system: &'a System<'a, R>,
     path: String,
-    /// Both, open since the last look.
-    opened: Option<OpenFolders<'a, R>>,
-    ghost are_its_own: { ForSome opened (λ both.
-        IsMaildirFolder (string_bytes path) New both.new_folder.folder (string_bytes both.new_folder.path)
-        × IsMaildirFolder (string_bytes path) Cur both.cur_folder.folder (string_bytes both.cur_folder.path)) },
-}
-
-/// The two folders, open.
-#[derive(Drop)]
-struct OpenFolders<'a, R: Files + AllocGlobal + Clone + Drop> {
-    new_folder: OpenFolder<'a, R>,
-    cur_folder: OpenFolder<'a, R>,
+    /// Which folders `new` and `cur` were at the last look.
+    folders: Option<(FileNumber, FileNumber)>,
 }
 
 /// Adds the files of these names in a folder.
@@ -81,7 +78,7 @@ fn files_of(
     Ok(files)
 }
 
-impl<'a, R: Files + Clock + AllocGlobal + Clone + Drop> MaildirFolders<'a, R> {
+impl<'a, R: Files + Env + Clock + AllocGlobal + Clone + Drop> MaildirFolders<'a, R> {
     /// The folders of the Maildir at this path.
     pub fn at(system: &'a System<'a, R>, path: String) -> MaildirFolders<'a, R>
         ensures { string_bytes result.path ≡ string_bytes path }
@@ -89,66 +86,56 @@ impl<'a, R: Files + Clock + AllocGlobal + Clone + Drop> MaildirFolders<'a, R> {
         MaildirFolders {
             system,
             path,
-            opened: None,
+            folders: None,
         }
     }
 
-    /// Opens a folder.
-    fn open_folder(&self, folder: Folder) -> io::Result<OpenFolder<'a, R>>
-        ensures { IfOk result (λ found.
-            IsMaildirFolder (string_bytes self.now.path) folder found.folder (string_bytes found.path)) }
-    {
-        let (path, name) = (self.path.as_str(), folder.name());
-        let path = format!(in self.system.alloc(); "{path}/{name}")?;
-        OpenFolder::open(self.system, folder, path)
-    }
-
-    /// A folder that was opened. NotConnected before the first look.
-    fn folder(&self, folder: Folder) -> io::Result<&OpenFolder<'a, R>>
-        ensures { IfOk result (λ found.
-            IsMaildirFolder (string_bytes self.now.path) folder found.now.folder (string_bytes found.now.path)) }
-    {
-        match &self.opened {
-            None => Err(io::Error::from(ErrorKind::NotConnected)),
-            Some(opened) => match folder {
-                Folder::New => Ok(&opened.new_folder),
-                Folder::Cur => Ok(&opened.cur_folder),
-            },
-        }
-    }
-
-    /// The path by which a file or a folder is named for which a call was refused.
-    fn named(&self, refused: String) -> String {
-        for folder in [Folder::New, Folder::Cur] {
-            if let Ok(folder) = self.folder(folder) {
-                if let Some(path) = folder.path_for(refused.as_str()) {
-                    return String::from_str(self.system.alloc(), path).unwrap_or(refused);
-                }
+    /// Refused if the superuser runs this, and others control a part of the way to the folders.
+    fn check_way(&self) -> io::Result<()> {
+        match check_maildir(self.system.alloc(), self.system, self.path.as_str()) {
+            Ok(()) => Ok(()),
+            Err(PathRefused::NoMemory) => Err(io::Error::from(ErrorKind::OutOfMemory)),
+            Err(PathRefused::Unsafe(way)) => {
+                Err(self.system.refusals.refuse(way.path.as_str(), OF_OTHERS))
             }
         }
-        refused
+    }
+
+    /// What the system reports of a folder.
+    fn stat(&self, folder: Folder) -> io::Result<Metadata> {
+        let path = folder_path(self.system.alloc(), self.path.as_str(), folder)?;
+        self.system.refusals.kept(self.system.stat(path.as_str()))
+    }
+
+    /// Refused if another folder than this is in its place by now, or none.
+    fn check_folder(&self, folder: Folder, before: FileNumber) -> io::Result<()> {
+        let found = self.stat(folder)?;
+        if FileNumber::of(&found) == before {
+            return Ok(());
+        }
+        let path = folder_path(self.system.alloc(), self.path.as_str(), folder)?;
+        Err(self.system.refusals.refuse(path.as_str(), REPLACED))
     }
 
     /// The names in both folders at one moment: each once, although others move files between the two meanwhile.
     /// Refused if `new` changes all the time.
     fn names(&self) -> io::Result<(Vec<String>, Vec<String>)> {
-        let (in_new, in_cur) = (self.folder(Folder::New)?, self.folder(Folder::Cur)?);
-        let mut folders = HostFolders::named(
-            self.system,
-            OPEN_FILES,
-            (in_new.number_text(), in_cur.number_text()),
-            ProcessMark::none(),
-        );
-        let Ok(names) = list_both(&mut folders, Sought::All) else {
-            return Err(self.system.refusals.error());
-        };
-        in_new.check_place()?;
-        in_cur.check_place()?;
-        Ok(names)
+        let path = self.path.as_str();
+        let mut folders = HostFolders::of_maildir(self.system, path, ProcessMark::none());
+        match list_both(&mut folders, Sought::All) {
+            Ok(names) => Ok(names),
+            Err(_) => Err(self.system.refusals.error()),
+        }
+    }
+
+    fn noted<T>(&self, call: &str, file: &FileWay, answer: io::Result<T>) -> io::Result<T>
+        ensures { result ≡ answer }
+    {
+        self.system.refusals.noted(call, file.path.as_str(), answer)
     }
 }
 
-impl<'a, R: Files + Clock + RandomSource + AllocGlobal + Clone + Drop> MailFiles
+impl<'a, R: Files + Env + Clock + RandomSource + AllocGlobal + Clone + Drop> MailFiles
     for MaildirFolders<'a, R> {
     type File = Noted<'a, R::File>;
 
@@ -182,32 +169,32 @@ impl<'a, R: Files + Clock + RandomSource + AllocGlobal + Clone + Drop> MailFiles
     fn look(&mut self) -> io::Result<FoldersLook>
         ensures { string_bytes self.new.path ≡ string_bytes self.old.path }
     {
+        self.check_way()?;
         let at = match self.system.rt.since_1970() {
             Ok(passed) => passed.as_secs(),
             Err(_) => 0,
         };
-        let new_folder = self.open_folder(Folder::New)?;
-        let cur_folder = self.open_folder(Folder::Cur)?;
-        let look = FoldersLook {
+        let (in_new, in_cur) = (self.stat(Folder::New)?, self.stat(Folder::Cur)?);
+        self.folders = Some((FileNumber::of(&in_new), FileNumber::of(&in_cur)));
+        Ok(FoldersLook {
             at,
-            new: new_folder.change()?,
-            cur: cur_folder.change()?,
-        };
-        self.opened = Some(OpenFolders {
-            new_folder,
-            cur_folder,
-        });
-        Ok(look)
+            new: ChangeTime::of(&in_new),
+            cur: ChangeTime::of(&in_cur),
+        })
     }
 
     fn close(&mut self)
         ensures { string_bytes self.new.path ≡ string_bytes self.old.path }
     {
-        self.opened = None;
+        self.folders = None;
     }
 
     fn list(&self) -> io::Result<Vec<PlacedFile>> {
         let (in_new, in_cur) = self.names()?;
+        if let Some((new_folder, cur_folder)) = self.folders {
+            self.check_folder(Folder::New, new_folder)?;
+            self.check_folder(Folder::Cur, cur_folder)?;
+        }
         let files = files_of(self.system.alloc(), in_new, in_cur)?;
         Ok(files)
     }
@@ -215,17 +202,30 @@ impl<'a, R: Files + Clock + RandomSource + AllocGlobal + Clone + Drop> MailFiles
     fn way(&self, folder: Folder, name: &str) -> io::Result<FileWay>
         ensures place { IfOk result (λ way. (way.folder ≡ folder) × (string_bytes way.name ≡ name.now)) }
         ensures path { IfOk result (λ way. string_bytes way.path
-            ≡ within (within (string_bytes self.now.path) (folder_name folder)) name.now) }
+            ≡ string_bytes self.now.path ++ (codes "/" ++ (folder_name folder ++ (codes "/" ++ name.now)))) }
     {
-        self.folder(folder)?.file(name)
+        check_name(name)?;
+        let alloc = self.system.alloc();
+        let (path, part) = (self.path.as_str(), folder.name());
+        Ok(FileWay {
+            folder,
+            name: String::from_str(alloc, name)?,
+            path: format!(in alloc; "{path}/{part}/{name}")?,
+        })
     }
 
     fn look_up(&self, file: &FileWay) -> io::Result<Found> {
-        self.folder(file.folder)?.look_up(file)
+        let found = match fs::symlink_metadata(self.system.rt, file.path.as_str()) {
+            Err(error) if error.kind() == ErrorKind::NotFound => return Err(error),
+            answer => self.noted("lstat", file, answer)?,
+        };
+        Ok(Found::of(&found))
     }
 
     fn open(&self, file: &FileWay) -> io::Result<Noted<'a, R::File>> {
-        self.folder(file.folder)?.open_file(file)
+        let (path, refusals) = (file.path.as_str(), self.system.refusals);
+        let opened = self.noted("open", file, fs::open(self.system.rt, path))?;
+        Ok(Noted::new(self.system.alloc(), opened, path, refusals))
     }
 
     fn stat_opened(&self, file: &Noted<'a, R::File>) -> io::Result<Found> {
@@ -244,7 +244,8 @@ impl<'a, R: Files + Clock + RandomSource + AllocGlobal + Clone + Drop> MailFiles
     fn unlink(&mut self, file: &FileWay) -> io::Result<()>
         ensures { string_bytes self.new.path ≡ string_bytes self.old.path }
     {
-        self.folder(file.folder)?.unlink(file)
+        let path = file.path.as_str();
+        self.noted("unlink", file, fs::remove_file(self.system.rt, path))
     }
 
     fn refuse(&self, file: &FileWay, words: &str) -> io::Error {
@@ -253,7 +254,7 @@ impl<'a, R: Files + Clock + RandomSource + AllocGlobal + Clone + Drop> MailFiles
 
     fn take_refused(&self) -> Option<String> {
         let refusal = self.system.refusals.take()?;
-        Some(self.named(refusal.path))
+        Some(refusal.path)
     }
 
     ghost lists = { λ _ _ none _. absurd none };

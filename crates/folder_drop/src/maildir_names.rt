@@ -6,7 +6,7 @@ ghost use Rattle.std.specs.{
   List.list_all,
 };
 ghost use Rattle.mail_terms.specs.{MaildirName.base as base_of, UniqueId.{is_legal_id, is_id_byte}};
-ghost use Rattle.folder_drop.specs.MaildirNames.{folder_name, id_of, is_listable_name, IsIdKey};
+ghost use Rattle.folder_drop.specs.MaildirNames.{folder_name, id_of, is_listable_name, maildir_folder, IsIdKey};
 ghost use Rattle.hex.specs.Hex.{encode_lower};
 ghost use Rattle.sha2.specs.Sha256.{sha256};
 
@@ -15,7 +15,9 @@ use pop3_wire::is_legal_id;
 use sha2::{Digest, Sha256};
 use std::alloc::{AllocError, Global};
 use std::cmp::Ordering;
+use std::fs::Metadata;
 use std::io::{self, ErrorKind};
+use std::os::unix::fs::MetadataExt;
 use std::time::Duration;
 
 /// How many characters a digest has in hexadecimal.
@@ -40,6 +42,14 @@ impl Folder {
     }
 }
 
+/// The path of a folder of the Maildir at a path.
+pub fn folder_path(alloc: Global, maildir: &str, folder: Folder) -> Result<String, AllocError>
+    ensures { IfOk result (λ path. string_bytes path ≡ maildir_folder maildir.now folder) }
+{
+    let name = folder.name();
+    format!(in alloc; "{maildir}/{name}")
+}
+
 /// Whether a listing may tell this name: it isn't hidden, and leads into no other folder.
 fn is_listable_name(name: &[u8]) -> bool
     ensures { result ≡ is_listable_name name.now }
@@ -59,24 +69,44 @@ pub fn check_name(name: &str) -> io::Result<()>
     Err(io::Error::from(ErrorKind::InvalidInput))
 }
 
-/// How long a file is, and when it was last changed, in seconds and nanoseconds since 1970.
-#[derive(Clone, Copy, PartialEq, Eq, PartialOrd, Ord)]
+/// Which file it is: its device, and its number there. All names of a file have the same.
+#[derive(Clone, Copy, PartialEq, Eq)]
+pub struct FileNumber {
+    pub device: u64,
+    pub inode: u64,
+}
+
+impl FileNumber {
+    /// The number of the file that the system reports this of.
+    pub fn of(metadata: &Metadata) -> FileNumber {
+        FileNumber {
+            device: metadata.dev(),
+            inode: metadata.ino(),
+        }
+    }
+}
+
+/// Which file it is, how long it is, and when it was last changed, in seconds and nanoseconds since 1970.
+#[derive(Clone, Copy, PartialEq, Eq)]
 pub struct Stamp {
+    pub number: FileNumber,
     pub length: u64,
     pub seconds: u64,
     pub nanoseconds: u32,
 }
 
 impl Stamp {
-    /// That of a file of this length, which was last changed when so much time had passed since 1970.
-    pub fn at(length: u64, passed: Duration) -> Stamp
+    /// That of a file of this number and length, which was last changed when so much time had passed since 1970.
+    pub fn at(number: FileNumber, length: u64, passed: Duration) -> Stamp
         ensures { result ≡ record {
+          number = number;
           length = length;
           seconds = as_nanos passed / 1_000_000_000;
           nanoseconds = as_nanos passed % 1_000_000_000;
         } }
     {
         Stamp {
+            number,
             length,
             seconds: passed.as_secs(),
             nanoseconds: passed.subsec_nanos(),

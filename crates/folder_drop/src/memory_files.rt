@@ -3,8 +3,8 @@ ghost use Rattle.std.specs.Prelude.{◌≡◌, ◌++◌, ◌∷◌, ◌<◌, [],
 ghost use Rattle.folder_drop.specs.MemoryNames.{HaveFiles};
 
 use crate::folders_look::FoldersLook;
-use crate::mail_files::{FileNumber, FileWay, Found, MailFiles};
-use crate::maildir_names::{Folder, PlacedFile, Stamp, check_name};
+use crate::mail_files::{FileWay, Found, MailFiles};
+use crate::maildir_names::{FileNumber, Folder, PlacedFile, Stamp, check_name};
 use crate::memory_names::{MemoryName, MemoryNames};
 use folder_store::ChangeTime;
 use std::alloc::{AllocError, Global};
@@ -205,13 +205,13 @@ impl<'a> MemoryFiles<'a> {
         } = self.files[file];
         Found {
             is_regular,
-            number: FileNumber {
-                device: 0,
-                inode: file as u64,
-            },
             stamp: Stamp {
+                number: FileNumber {
+                    device: 0,
+                    inode: file as u64,
+                },
                 length: content.len() as u64,
-                seconds: file as u64,
+                seconds: 0,
                 nanoseconds: 0,
             },
         }
@@ -294,7 +294,6 @@ impl<'a> MailFiles for MemoryFiles<'a> {
             folder,
             name: String::from_str(self.alloc, name)?,
             path: String::from_str(self.alloc, name)?,
-            way: String::from_str(self.alloc, name)?,
         })
     }
 

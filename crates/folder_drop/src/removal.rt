@@ -8,15 +8,14 @@ ghost use Rattle.folder_drop.specs.{
   declared.{maildir_names.PlacedFile.PlacedFile, removal.Namesake.Namesake},
   MailFiles.{Has, Stays, TakesSome},
   RealMaildir.listed_name,
-  Removal.{AreNamesakes, HasStamp, IsInPlace, IsListedAt, BearsOne, IsNamesake, IsOther, MayGo, NoneIsInPlace},
-  Removal.{NoneIsListed, RemovesMessage, RemovesSeen, RemovesWith, SeesAll, TakesMessage, TellsInstead, WasRead},
-  Removal.{WereSeen, if_any},
+  Removal.{AreNamesakes, BearsOne, HasStamp, IsNamesake, IsOther, MayGo, RemovesMessage, RemovesSeen, RemovesWith},
+  Removal.{SeesAll, TakesMessage, TellsInstead, WasRead, WereSeen, if_any},
   SeenFiles.{HaveBase, those_seen},
 };
 
 use crate::finding::{MOST_TRIES, busy, open_regular};
 use crate::listed_file::{ListedFile, PIECE};
-use crate::mail_files::{FileNumber, FileWay, MailFiles};
+use crate::mail_files::{FileWay, MailFiles};
 use crate::maildir_names::{PlacedFile, Stamp};
 use crate::same_octets::have_same_octets;
 use crate::seen_files::SeenFiles;
@@ -30,34 +29,19 @@ pub const NOT_REGULAR: &str = "not a regular file";
 #[derive(Drop)]
 pub struct Namesake {
     pub file: FileWay,
-    pub number: FileNumber,
     pub stamp: Stamp,
-    /// Whether it is where the message was listed.
-    pub is_in_place: bool,
 }
 
-/// Two files with one base that are different messages: the path where one was listed, and that of the other.
+/// The path where a message was listed, and that of a file with its base that may be another message: they are the same
+/// if that is there now.
 #[derive(Drop)]
 pub struct TwoMessages {
     pub listed: String,
     pub other: String,
 }
 
-/// The place of the file that is where the message was listed.
-fn place_listed(files: &[Namesake]) -> Option<usize>
-    ensures found { IfSome result (λ i. (i < length files.now) × HoldsAt IsInPlace files.now i) }
-    ensures none { IfNone result (NoneIsInPlace files.now) }
-{
-    for (place, file) in files.iter().enumerate() {
-        if file.is_in_place {
-            return Some(place);
-        }
-    }
-    None
-}
-
-/// The place of a file of this length and time of modification.
-fn place_stamped(files: &[Namesake], stamp: Stamp) -> Option<usize>
+/// The place of the listed file, under whatever name: the one of its number, length and time of modification.
+pub fn listed_place(files: &[Namesake], stamp: Stamp) -> Option<usize>
     ensures found { IfSome result (λ i. (i < length files.now) × HoldsAt (HasStamp stamp) files.now i) }
     ensures none { IfNone result (All (λ (file : Namesake). file.stamp ≢ stamp) files.now) }
 {
@@ -69,18 +53,6 @@ fn place_stamped(files: &[Namesake], stamp: Stamp) -> Option<usize>
     None
 }
 
-/// The place of the listed file: the one that is where it was listed, or else one with the length and time of
-/// modification that the listed one had, since renaming a file keeps both.
-pub fn listed_place(files: &[Namesake], stamp: Stamp) -> Option<usize>
-    ensures found { IfSome result (IsListedAt files.now stamp) }
-    ensures none { IfNone result (NoneIsListed files.now stamp) }
-{
-    match place_listed(files) {
-        Some(place) => Some(place),
-        None => place_stamped(files, stamp),
-    }
-}
-
 /// A file with the base of a listed one, as it is now. None if it isn't a regular file; in the place of the
 /// listed one that is refused. NotFound if it isn't where it was seen.
 fn look_at<D: MailFiles>(
@@ -90,18 +62,15 @@ fn look_at<D: MailFiles>(
 ) -> io::Result<Option<Namesake>>
     ensures { IfOk result (IsNamesake (D.found files.now) listed.now file.now) }
 {
-    let is_in_place = listed.is_same(file);
     let way = files.way(file.folder, file.name.as_str())?;
     let found = files.look_up(&way)?;
     if found.is_regular {
         return Ok(Some(Namesake {
             file: way,
-            number: found.number,
             stamp: found.stamp,
-            is_in_place,
         }));
     }
-    if is_in_place {
+    if listed.is_same(file) {
         return Err(files.refuse(&way, NOT_REGULAR));
     }
     Ok(None)
@@ -139,7 +108,7 @@ fn reader<D: MailFiles>(files: &D, file: &Namesake) -> io::Result<BufReader<D::F
     ensures { IfOk result (λ reader. WasRead D.File.remaining (D.opened files.now) file.now
         (⟦<BufReader<D::File> as Read>⟧.remaining reader)) }
 {
-    let opened = open_regular(files, &file.file, file.number)?;
+    let opened = open_regular(files, &file.file, file.stamp.number)?;
     let reader = BufReader::with_capacity(files.alloc(), PIECE, opened)?;
     Ok(reader)
 }
@@ -151,7 +120,7 @@ fn goes_with<D: MailFiles>(files: &D, file: &Namesake, listed: &Namesake) -> io:
     ensures stays { IfOk result (λ goes. goes ≡ false
         → IsOther D.File.remaining (D.opened files.now) listed.now file.now) }
 {
-    if file.number == listed.number {
+    if file.stamp.number == listed.stamp.number {
         return Ok(true);
     }
     let mut own = reader(files, file)?;
@@ -182,23 +151,23 @@ fn place_of_other<D: MailFiles>(
 
 /// Removes a name of a regular file. NotFound if something else has it by now.
 fn remove_name<D: MailFiles>(files: &mut D, file: &Namesake) -> io::Result<()>
-    ensures removed { IfOk result (λ _. D.removed files.new file.now.file file.now.number) }
+    ensures removed { IfOk result (λ _. D.removed files.new file.now.file file.now.stamp.number) }
     ensures takes { TakesSome D.path D.looked D.removed D.sound D.files (Has file.now.file) files.old files.new }
 {
     let there = files.look_up(&file.file)?;
-    there.check(file.number)?;
+    there.check(file.stamp.number)?;
     files.unlink(&file.file)
 }
 
 /// Removes those of these files that are copies of the listed one.
 fn remove_copies<D: MailFiles>(files: &mut D, all: &[Namesake], listed: &Namesake) -> io::Result<()>
-    ensures removed { OnOk result (All (λ file. file.number ≢ listed.now.number
-        → D.removed files.new file.file file.number) all.now) }
+    ensures removed { OnOk result (All (λ file. file.stamp.number ≢ listed.now.stamp.number
+        → D.removed files.new file.file file.stamp.number) all.now) }
     ensures takes { TakesSome D.path D.looked D.removed D.sound D.files (BearsOne all.now) files.old
         files.new }
 {
     for file in all {
-        if file.number != listed.number {
+        if file.stamp.number != listed.stamp.number {
             remove_name(files, file)?;
         }
     }
@@ -207,13 +176,13 @@ fn remove_copies<D: MailFiles>(files: &mut D, all: &[Namesake], listed: &Namesak
 
 /// Removes those of these files that are the listed one.
 fn remove_names<D: MailFiles>(files: &mut D, all: &[Namesake], listed: &Namesake) -> io::Result<()>
-    ensures removed { OnOk result (All (λ file. file.number ≡ listed.now.number
-        → D.removed files.new file.file file.number) all.now) }
+    ensures removed { OnOk result (All (λ file. file.stamp.number ≡ listed.now.stamp.number
+        → D.removed files.new file.file file.stamp.number) all.now) }
     ensures takes { TakesSome D.path D.looked D.removed D.sound D.files (BearsOne all.now) files.old
         files.new }
 {
     for file in all {
-        if file.number == listed.number {
+        if file.stamp.number == listed.stamp.number {
             remove_name(files, file)?;
         }
     }
@@ -222,7 +191,7 @@ fn remove_names<D: MailFiles>(files: &mut D, all: &[Namesake], listed: &Namesake
 
 /// Removes these files, the listed one last, so that it stays if one of the others can't be removed.
 fn remove_all<D: MailFiles>(files: &mut D, all: &[Namesake], listed: &Namesake) -> io::Result<()>
-    ensures removed { OnOk result (All (λ file. D.removed files.new file.file file.number) all.now) }
+    ensures removed { OnOk result (All (λ file. D.removed files.new file.file file.stamp.number) all.now) }
     ensures takes { TakesSome D.path D.looked D.removed D.sound D.files (BearsOne all.now) files.old
         files.new }
 {

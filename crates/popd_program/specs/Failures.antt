@@ -1,20 +1,26 @@
 -- How the program ends: the exit status, and what each failure says of the words.
 use Rattle.std.specs.{
-  Prelude.{◌≡◌, ◌≢◌, ◌||◌, ℕ, Bool, true, false, not, List, Some, Result, Ok, Err, is_some, option_map, if◌then◌else◌},
+  Global.Global,
+  Prelude.{◌≡◌, ◌≢◌, ◌||◌, ℕ, Bool, true, false, not, List, Some, Result, Ok, Err, String, is_some, option_map},
+  Prelude.if◌then◌else◌,
   String.string_bytes,
 }
 use Rattle.pop3_server.specs.declared.fault.ServerFault.TheVariants.{NoMemory}
 use Rattle.popd_program.specs.{
   CommandLine.{is_bare, has_all_words},
-  declared.{failure.Failure.{Failure, TheVariants.{WrongCount, CannotRead, CannotListen, Fault}}, words.Words.Words},
+  declared.{
+    failure.Failure.{Failure, TheVariants.{CannotListen, CannotRead, Fault, Unsafe, WrongCount}},
+    words.Words.Words,
+  },
 }
 
--- 0: served; 1: a file, an address, the link or memory failed; 2: usage
+-- 0: served; 1: a file, an address, the Maildir, the link or memory failed; 2: usage
 abbrev pub status_of_serving : Result (Unit {0}) Failure → ℕ
 status_of_serving (Ok done) = 0
 status_of_serving (Err WrongCount) = 2
 status_of_serving (Err (CannotRead name)) = 1
 status_of_serving (Err (CannotListen address)) = 1
+status_of_serving (Err (Unsafe text)) = 1
 status_of_serving (Err (Fault fault)) = 1
 
 -- as many words as are wanted: none for a rehearsal, else USER PASSFILE MAILDIR
@@ -37,11 +43,16 @@ pub record NamesAddress (words : Words) (address : List ℕ) : Type 0 where
   pub wanted : words.rehearse ≡ false
   pub named : option_map string_bytes words.listen ≡ Some address
 
+-- a failure that says why the superuser is refused the Maildir
+abbrev pub TellsUnsafe : Failure → Type 0
+TellsUnsafe failure = (text : String Global) × (failure ≡ Unsafe text)
+
 -- what a failure says of the words
 abbrev pub IsCause : Words → Failure → Type 0
 IsCause words WrongCount = has_right_count words ≡ false
 IsCause words (CannotRead name) = NamesPassfile words name.now
 IsCause words (CannotListen address) = NamesAddress words address.now
+IsCause words (Unsafe text) = (has_right_count words ≡ true) × (words.rehearse ≡ false)
 -- only the link of standard input and output ends the program; memory may run out anywhere
 IsCause words (Fault fault) = (has_right_count words ≡ true) × (fault ≢ NoMemory → serves_streams words ≡ true)
 

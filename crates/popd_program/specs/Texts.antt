@@ -1,6 +1,7 @@
 -- What the program writes to standard error, line by line.
 use Rattle.std.specs.{
-  Prelude.{◌++◌, ◌==◌, ◌&&◌, if◌then◌else◌, ℕ, Bool, false, not, List, [], codes, decimal, flat_map, string_bytes},
+  Prelude.{◌++◌, ◌==◌, ◌&&◌, if◌then◌else◌, ℕ, Bool, false, not, List, [], bytes_eq, codes, decimal, flat_map},
+  String.string_bytes,
   Char.{encode_utf8, is_control},
   Fmt.digits,
   Net.Text.socket_text,
@@ -11,10 +12,10 @@ use Rattle.pop3_server.specs.declared.{
   journal.Event.{Event, TheVariants.{Left, LoggedIn, Refused, Unavailable}},
 }
 use Rattle.popd_program.specs.declared.{
-  failure.Failure.{Failure, TheVariants.{CannotListen, CannotRead, Fault, WrongCount}},
+  failure.Failure.{Failure, TheVariants.{CannotListen, CannotRead, Fault, Unsafe, WrongCount}},
   telling.Peer.{Peer, TheVariants.{Address, StandardInput}},
   warning.Warning.{Warning, TheVariants.{Cut, Network, NoFolder, NoPassword, NoUser, NotRemoved, OpenPassfile}},
-  warning.Warning.TheVariants.{OtherOwner, Unread},
+  warning.Warning.TheVariants.{Unread},
 }
 
 -- a control character is shown by its number in hexadecimal
@@ -36,6 +37,7 @@ abbrev pub words_of_failure : Failure → List ℕ
 words_of_failure WrongCount = codes "wrong number of arguments"
 words_of_failure (CannotRead name) = codes "cannot read " ++ name.now
 words_of_failure (CannotListen address) = codes "cannot listen on " ++ address.now
+words_of_failure (Unsafe text) = string_bytes text
 words_of_failure (Fault fault) = words_of_fault fault
 
 -- why no client can give a name or a password
@@ -54,18 +56,15 @@ no_password = codes "no client can give this password: " ++ not_given
 abbrev pub open_passfile : List ℕ → List ℕ
 open_passfile path = codes "others than its owner may read or write " ++ shown_path path
 
-abbrev pub run_as : List ℕ
-run_as = codes "run popd as that user, by User= in a unit or runuser(1)"
-
 abbrev pub unencrypted : List ℕ
 unencrypted = codes "password and mail go over the network unencrypted"
 
-abbrev pub may_differ : List ℕ
-may_differ = codes "have one unique-id but may be different messages"
-
-abbrev pub other_owner : List ℕ → ℕ → List ℕ
-other_owner maildir owner = shown_path maildir ++ (codes " belongs to user " ++ (decimal owner
-    ++ (codes ": " ++ run_as)))
+-- why a message isn't removed: what is where it was listed, or another file with its unique-id
+abbrev pub not_removed : List ℕ → List ℕ → List ℕ
+not_removed listed other = codes "not removed: " ++ (if bytes_eq listed other
+    then shown_path listed ++ codes " isn't as it was listed"
+    else shown_path listed ++ (codes " and " ++ (shown_path other
+    ++ codes " have one unique-id but may be different messages")))
 
 -- what follows 'popd: warning: '
 abbrev pub words_of_warning : Warning → List ℕ
@@ -73,11 +72,9 @@ words_of_warning (NoFolder maildir name) = no_folder maildir.now name.now
 words_of_warning NoUser = no_user
 words_of_warning NoPassword = no_password
 words_of_warning (OpenPassfile path) = open_passfile path.now
-words_of_warning (OtherOwner maildir owner) = other_owner maildir.now owner
 words_of_warning (Network address) = socket_text address ++ (codes " isn't loopback: " ++ unencrypted)
 words_of_warning (Unread path) = codes "cannot read " ++ shown_path path.now
-words_of_warning (NotRemoved two) = codes "not removed: " ++ (shown_path (string_bytes two.now.listed) ++ (codes " and "
-    ++ (shown_path (string_bytes two.now.other) ++ (codes " " ++ may_differ))))
+words_of_warning (NotRemoved two) = not_removed (string_bytes two.now.listed) (string_bytes two.now.other)
 words_of_warning (Cut client fault) = socket_text client ++ (codes ": " ++ words_of_fault fault)
 
 -- the client that is served

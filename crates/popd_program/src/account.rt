@@ -1,16 +1,25 @@
 //! The account that is served: user, password and Maildir.
-ghost use Rattle.std.specs.{Prelude.{◌≡◌, [], true, false, IfOk, IfErr, codes}, String.string_bytes};
-ghost use Rattle.popd_program.specs.{Account.{IsAccount, IsCopy}, Failures.{IsCause, IsUnread}, Start.at_start};
+ghost use Rattle.std.specs.{
+  Prelude.{◌≡◌, ◌⊎◌, [], true, false, IfOk, IfErr, OnOk, codes},
+  String.string_bytes,
+};
+ghost use Rattle.folder_drop.specs.SafeMaildir.{IsSafeMaildir, IsUnsafeMaildir};
+ghost use Rattle.popd_program.specs.{
+  Account.{IsAccount, IsCopy},
+  Failures.{IsCause, IsUnread, TellsUnsafe},
+  Start.at_start,
+};
 
 use crate::failure::{Failure, failure_of};
 use crate::password::password;
 use crate::words::Words;
 use file_reading::ReadFile;
 use folder_drop::MaildirDrop;
-use pop3_server::{Maildrop, Server};
+use pop3_server::{Maildrop, Server, ServerFault};
+use safe_path::{Looks, PathRefused};
 use std::alloc::{AllocError, Global};
 use std::random::RandomSource;
-use std::rt::{Clock, Files};
+use std::rt::{Clock, Env, Files};
 use system_calls::System;
 
 /// The account that is served.
@@ -40,7 +49,7 @@ impl Account {
         system: &'a System<'a, R>,
     ) -> Result<MaildirDrop<'a, R>, AllocError>
     where
-        R: Files + Clock + RandomSource + AllocGlobal + Clone + Drop,
+        R: Files + Env + Clock + RandomSource + AllocGlobal + Clone + Drop,
         ensures path { IfOk result (λ maildir. string_bytes maildir.files.path ≡ string_bytes self.now.maildir) }
         ensures new { IfOk result (λ maildir. (maildir.listed ≡ []) × (maildir.failures ≡ 0) × (maildir.removals ≡ 0)) }
     {
@@ -54,6 +63,27 @@ impl Account {
     {
         let Account { user, password, .. } = self;
         Server::new(alloc, maildrop, user, password)
+    }
+}
+
+/// Refuses to the superuser an account of whose Maildir others control a part.
+pub fn check_maildir<L: Looks + ReadFile>(
+    alloc: Global,
+    looks: &L,
+    account: &Account,
+) -> Result<(), Failure<'static>>
+    ensures safe { OnOk result (IsSafeMaildir L.Looks L.ReadFile looks.now (string_bytes account.now.maildir)) }
+    ensures told { IfErr result (λ f. (f ≡ Failure.Fault ServerFault.NoMemory) ⊎ TellsUnsafe f) }
+    ensures refused { IfErr result (λ f. (f ≡ Failure.Fault ServerFault.NoMemory)
+        ⊎ IsUnsafeMaildir L.Looks L.ReadFile looks.now (string_bytes account.now.maildir)) }
+{
+    match folder_drop::check_maildir(alloc, looks, account.maildir.as_str()) {
+        Ok(()) => Ok(()),
+        Err(PathRefused::NoMemory) => Err(Failure::Fault(ServerFault::NoMemory)),
+        Err(PathRefused::Unsafe(way)) => {
+            let text = way.text(alloc, looks)?;
+            Err(Failure::Unsafe(String::from_utf8_lossy(alloc, text.as_slice())?))
+        }
     }
 }
 

@@ -15,7 +15,7 @@ use std::str;
 use system_calls::Refusals;
 
 /// Why the program serves nothing, or ends early.
-#[derive(Clone, Copy)]
+#[derive(Drop)]
 pub enum Failure<'a> {
     /// There are too many or too few words besides the options.
     WrongCount,
@@ -23,6 +23,8 @@ pub enum Failure<'a> {
     CannotRead(&'a str),
     /// This address can't be listened on.
     CannotListen(&'a str),
+    /// The superuser runs it, and others control a part of the way to the Maildir: this is said of it.
+    Unsafe(String),
     /// The link failed, or memory ran out.
     Fault(ServerFault),
 }
@@ -75,18 +77,19 @@ impl<'a> Display for Failure<'a> {
     ghost output = { λ f. Some (words_of_failure f) };
 
     fn fmt<W: Write>(&self, f: &mut Formatter<W>) -> fmt::Result {
-        match *self {
+        match self {
             Failure::WrongCount => f.write_str("wrong number of arguments"),
             Failure::CannotRead(name) => write!(f, "cannot read {name}"),
             Failure::CannotListen(address) => write!(f, "cannot listen on {address}"),
-            Failure::Fault(fault) => f.write_str(words_of_fault(fault)),
+            Failure::Unsafe(text) => f.write_str(text.as_str()),
+            Failure::Fault(fault) => f.write_str(words_of_fault(*fault)),
         }
     }
 }
 
 /// Writes a failure's line to standard error. It allocates nothing, and a line that can't be written
 /// changes nothing.
-pub fn tell<R: Eprint>(rt: &R, failure: Failure<'_>) {
+pub fn tell<R: Eprint>(rt: &R, failure: &Failure<'_>) {
     let _ = rt.eprintln(format_args!("popd: {failure}"));
 }
 
@@ -94,7 +97,7 @@ pub fn tell<R: Eprint>(rt: &R, failure: Failure<'_>) {
 /// what the system said.
 pub fn tell_reason<R: Eprint + AllocGlobal>(
     rt: &R,
-    outcome: Result<(), Failure<'_>>,
+    outcome: &Result<(), Failure<'_>>,
     refusals: &Refusals,
 ) {
     let (Err(Failure::CannotRead(_) | Failure::CannotListen(_)), Some(refusal)) = (
@@ -113,8 +116,8 @@ pub fn tell_reason<R: Eprint + AllocGlobal>(
 
 /// Writes the failure's line, if there was a failure, and returns the exit status: 0 if there was
 /// none, 2 for a wrong number of words, 1 for any other failure.
-pub fn end<R: Eprint>(rt: &R, outcome: Result<(), Failure<'_>>) -> u8
-    ensures status { result ≡ status_of_serving outcome.entry }
+pub fn end<R: Eprint>(rt: &R, outcome: &Result<(), Failure<'_>>) -> u8
+    ensures status { result ≡ status_of_serving outcome.now }
     ensures within { result ≤ 2 }
 {
     match outcome {

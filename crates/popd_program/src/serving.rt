@@ -1,9 +1,9 @@
 //! Serves standard input and output, or TCP connections one after the other.
 ghost use Rattle.std.specs.{Prelude.{◌≡◌, ◌⊎◌, true, IfOk, IfErr}, String.string_bytes};
 ghost use Rattle.pop3_server.specs.ServerMachine.{is_open};
-ghost use Rattle.popd_program.specs.{Account.IsCopy, Texts.client_name, Visits.removals_by};
+ghost use Rattle.popd_program.specs.{Account.IsCopy, Failures.TellsUnsafe, Texts.client_name, Visits.removals_by};
 
-use crate::account::Account;
+use crate::account::{Account, check_maildir};
 use crate::failure::{Failure, failure_of, tell};
 use crate::telling::{Peer, Telling, tell_listening};
 use crate::visit::{Quit, Visit, serve_account};
@@ -13,10 +13,10 @@ use crate::words::Words;
 use folder_drop::MaildirDrop;
 use pop3_server::{Maildrop, Server, ServerFault, serve_and_note};
 use pop3_wire::StreamWire;
-use std::io::{Read, Stderr, Write};
+use std::io::{ErrorKind, Read, Stderr, Write};
 use std::net::{Net, TcpListener, TcpStream};
 use std::random::RandomSource;
-use std::rt::{Clock, Files};
+use std::rt::{Clock, Env, Files};
 use std::thread;
 use std::time::Duration;
 use system_calls::{Noted, System};
@@ -25,6 +25,9 @@ use trace::TracedWire;
 /// How long the server waits after a connection that couldn't be accepted: without a free descriptor,
 /// the next one can't be accepted at once either.
 const PAUSE_SECONDS: u64 = 1;
+
+/// Why a text is no address to listen on.
+const NO_ADDRESS: &str = "an address is HOST:PORT, such as 127.0.0.1:1100";
 
 const STANDARD_INPUT: &str = "standard input";
 
@@ -79,7 +82,7 @@ pub fn serve_maildir<'a, R, I, O>(
     maildir: MaildirDrop<'a, R>,
 ) -> Visit<'a, R>
 where
-    R: Files + Clock + RandomSource + AllocGlobal + Eprint + Clone + Drop,
+    R: Files + Env + Clock + RandomSource + AllocGlobal + Eprint + Clone + Drop,
     I: Read + Drop,
     O: Write + Drop,
     ensures { result.maildir.removals ≡ removals_by result.quit maildir.entry.removals }
@@ -125,7 +128,7 @@ fn serve_connection<'a, R>(
     maildir: MaildirDrop<'a, R>,
 ) -> Visit<'a, R>
 where
-    R: Files + Clock + RandomSource + AllocGlobal + Eprint + Clone + Drop,
+    R: Files + Env + Clock + RandomSource + AllocGlobal + Eprint + Clone + Drop,
     ensures { result.maildir.removals ≡ removals_by result.quit maildir.entry.removals }
 {
     let (account, bounded, name) = match begin(system, stream, telling.peer, account) {
@@ -165,14 +168,14 @@ fn serve_next<'a, R>(
     maildir: MaildirDrop<'a, R>,
 ) -> Visit<'a, R>
 where
-    R: Files + Clock + RandomSource + AllocGlobal + Eprint + Clone + Drop,
+    R: Files + Env + Clock + RandomSource + AllocGlobal + Eprint + Clone + Drop,
     ensures { result.maildir.removals ≡ removals_by result.quit maildir.entry.removals }
 {
     let rt = system.rt;
     let (listener, address) = listener;
     let Ok((stream, client)) = system.refusals.noted("accept", address, listener.accept()) else {
         thread::sleep(rt, Duration::from_secs(PAUSE_SECONDS));
-        tell(rt, Failure::Fault(ServerFault::ReadFailed));
+        tell(rt, &Failure::Fault(ServerFault::ReadFailed));
         return Visit {
             served: Err(ServerFault::ReadFailed),
             quit: None,
@@ -186,10 +189,29 @@ where
     };
     let visit = serve_connection(system, &mut telling, &stream, account, maildir);
     if let Err(fault) = visit.served {
-        tell(rt, Failure::Fault(fault));
+        tell(rt, &Failure::Fault(fault));
         warn(rt, Warning::Cut(client, fault));
     }
     visit
+}
+
+/// Listens on an address. The reason of one that isn't of the form is its own.
+fn bind<'a, R>(system: &System<'_, R>, address: &'a str) -> Result<TcpListener, Failure<'a>>
+where
+    R: Net<Listener = TcpListener, Stream = TcpStream> + AllocGlobal,
+    ensures { IfErr result (λ f. (f ≡ Failure.CannotListen address.entry)
+        ⊎ (f ≡ Failure.Fault ServerFault.NoMemory)) }
+{
+    let bound = TcpListener::bind(system.rt, address);
+    match system.refusals.noted("bind", address, bound) {
+        Ok(listener) => Ok(listener),
+        Err(error) => {
+            if error.kind() == ErrorKind::InvalidInput && error.raw_os_error().is_none() {
+                let _ = system.refusals.refuse(address, NO_ADDRESS);
+            }
+            Err(failure_of(error, Failure::CannotListen(address)))
+        }
+    }
 }
 
 /// Serves connections to an address over the account's Maildir, one after the other, as many as the words say.
@@ -204,17 +226,14 @@ pub fn listen<'a, 'b, R>(
     maildir: MaildirDrop<'b, R>,
 ) -> Result<(Option<Quit>, MaildirDrop<'b, R>), Failure<'a>>
 where
-    R: Net<Listener = TcpListener, Stream = TcpStream> + Files + Clock,
+    R: Net<Listener = TcpListener, Stream = TcpStream> + Files + Env + Clock,
     R: RandomSource + AllocGlobal + Eprint + Copy + Drop,
     ensures err { IfErr result (λ f. (f ≡ Failure.CannotListen address.entry)
-        ⊎ (f ≡ Failure.Fault ServerFault.NoMemory)) }
+        ⊎ (f ≡ Failure.Fault ServerFault.NoMemory) ⊎ TellsUnsafe f) }
     ensures removals { IfOk result (λ left. left.1.removals ≡ removals_by left.0 maildir.entry.removals) }
 {
-    let bound = TcpListener::bind(system.rt, address);
-    let listener = match system.refusals.noted("bind", address, bound) {
-        Ok(listener) => listener,
-        Err(error) => return Err(failure_of(error, Failure::CannotListen(address))),
-    };
+    let listener = bind(system, address)?;
+    check_maildir(system.alloc(), system, account)?;
     if words.verbose {
         tell_listening(system.rt, &listener);
     }

@@ -10,7 +10,7 @@ ghost use Rattle.popd_program.specs.{
   Starting.{EndsWith, IsServed},
 };
 
-use crate::account::read_account;
+use crate::account::{check_maildir, read_account};
 use crate::failure::{Failure, end, failure_of, tell_reason};
 use crate::rehearsal::rehearsal_server;
 use crate::serving::{listen, serve_maildir, serve_streams};
@@ -40,9 +40,9 @@ pub fn arguments<R: Env + AllocGlobal>(rt: &R) -> Result<Vec<String>, Failure<'s
 }
 
 /// Does what the command line asks for, or returns the first of these failures: a wrong number of
-/// words, a password file that can't be read, an address that can't be listened on, a fault of the
-/// link. With an address to listen on, a fault of one connection isn't a failure of the run. Without
-/// one, the streams are served: standard input and output.
+/// words, a password file that can't be read, an address that can't be listened on, a Maildir that the superuser is
+/// refused, a fault of the link. With an address to listen on, a fault of one connection isn't a failure of the run.
+/// Without one, the streams are served: standard input and output.
 fn run<'a, R, I, O>(
     system: &System<'_, R>,
     words: &'a Words,
@@ -51,7 +51,7 @@ fn run<'a, R, I, O>(
     streams: (I, O),
 ) -> Result<(), Failure<'a>>
 where
-    R: Net<Listener = TcpListener, Stream = TcpStream> + Files + Clock,
+    R: Net<Listener = TcpListener, Stream = TcpStream> + Files + Env + Clock,
     R: RandomSource + AllocGlobal + Eprint + Copy + Drop,
     I: Read + Drop,
     O: Write + Drop,
@@ -85,7 +85,10 @@ where
             )?;
             Ok(())
         }
-        None => Ok(serve_maildir(system, account, telling, streams, maildir).served?),
+        None => {
+            check_maildir(system.alloc(), system, &account)?;
+            Ok(serve_maildir(system, account, telling, streams, maildir).served?)
+        }
     }
 }
 
@@ -100,7 +103,7 @@ fn explain<R: Print + Eprint>(rt: &R, error: &Error) -> u8
 {
     match show(rt, "popd", error) {
         Some(status) => status,
-        None => end(rt, Err(Failure::Fault(ServerFault::NoMemory))),
+        None => end(rt, &Err(Failure::Fault(ServerFault::NoMemory))),
     }
 }
 
@@ -147,9 +150,9 @@ where
         peer_of(rt),
         streams,
     );
-    let status = end(rt, outcome);
+    let status = end(rt, &outcome);
     if tells_reasons {
-        tell_reason(rt, outcome, &refusals);
+        tell_reason(rt, &outcome, &refusals);
     }
     status
 }
@@ -173,7 +176,7 @@ where
 {
     let arguments = match arguments {
         Ok(arguments) => arguments,
-        Err(failure) => return end(rt, Err(failure)),
+        Err(failure) => return end(rt, &Err(failure)),
     };
     match read_words(rt.alloc(), arguments.as_slice()) {
         Ok(words) => {

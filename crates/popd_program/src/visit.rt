@@ -10,7 +10,7 @@ use folder_drop::MaildirDrop;
 use pop3_server::{Journal, Maildrop, ServerFault, only_quit_closes, serve_and_note};
 use pop3_wire::Wire;
 use std::random::RandomSource;
-use std::rt::{Clock, Files};
+use std::rt::{Clock, Env, Files};
 use system_calls::System;
 
 /// That a session came to QUIT, and how many removals its Maildir was asked for by its end. Nothing but
@@ -22,7 +22,7 @@ pub struct Quit {
 
 /// What was served over a Maildir.
 #[derive(Drop)]
-pub struct Visit<'a, R: Files + Clock + RandomSource + AllocGlobal + Clone + Drop> {
+pub struct Visit<'a, R: Files + Env + Clock + RandomSource + AllocGlobal + Clone + Drop> {
     /// How the session ended.
     pub served: Result<(), ServerFault>,
     /// Whether it came to QUIT.
@@ -35,7 +35,7 @@ pub struct Visit<'a, R: Files + Clock + RandomSource + AllocGlobal + Clone + Dro
 /// that wasn't removed because another one has its name.
 fn warn_of_maildir<R>(rt: &R, maildir: &MaildirDrop<'_, R>)
 where
-    R: Files + Clock + RandomSource + AllocGlobal + Eprint + Clone + Drop,
+    R: Files + Env + Clock + RandomSource + AllocGlobal + Eprint + Clone + Drop,
 {
     if let Some(path) = maildir.unread() {
         warn(rt, Warning::Unread(path));
@@ -67,7 +67,7 @@ pub(crate) fn serve_account<'a, R, J, W>(
     wire: &mut W,
 ) -> Visit<'a, R>
 where
-    R: Files + Clock + RandomSource + AllocGlobal + Eprint + Clone + Drop,
+    R: Files + Env + Clock + RandomSource + AllocGlobal + Eprint + Clone + Drop,
     J: Journal,
     W: Wire,
     ensures removals { result.maildir.removals ≡ removals_by result.quit maildir.entry.removals }

@@ -7,8 +7,8 @@ ghost use Rattle.std.specs.{
   declared.net.ip_addr.IpAddr.IpAddr,
 };
 ghost use Rattle.popd_program.specs.{
-  Texts.{shown_path, shown_character, words_of_warning},
-  Warnings.{IsUnmapped, IsOfMachine, given_if, is_open_to_others, is_others, is_served, warnings_of},
+  Texts.{not_removed, shown_path, shown_character, words_of_warning},
+  Warnings.{IsUnmapped, IsOfMachine, given_if, is_open_to_others, warnings_of},
 };
 
 use crate::account::Account;
@@ -19,7 +19,7 @@ use pop3_server::ServerFault;
 use std::alloc::{AllocError, Global};
 use std::fmt::{self, Display, Formatter, Write};
 use std::net::{SocketAddr, TcpListener};
-use std::os::unix::fs::{MetadataExt, PermissionsExt};
+use std::os::unix::fs::PermissionsExt;
 use std::rt::Files;
 use system_calls::System;
 
@@ -34,13 +34,11 @@ pub enum Warning<'a> {
     NoPassword,
     /// Others than its owner may read or write the password file of this name.
     OpenPassfile(&'a str),
-    /// The Maildir of this name belongs to the user of this number, and the superuser serves it.
-    OtherOwner(&'a str, u32),
     /// Who connects to this address may do so over a network.
     Network(SocketAddr),
     /// A message's file, or a folder of the Maildir, can't be read.
     Unread(&'a str),
-    /// A message wasn't removed, since the other file of its name may be another one.
+    /// A message wasn't removed, since what is in its place or has its name may be another one.
     NotRemoved(&'a TwoMessages),
     /// This fault ended the connection from this address.
     Cut(SocketAddr, ServerFault),
@@ -84,14 +82,22 @@ impl<'a> Display for Shown<'a> {
 /// Why no client can give a name or a password.
 const NOT_GIVEN: &str = "it is empty, longer than 500 octets, or has a CR, LF or NUL in it";
 
-/// What to do about another owner.
-const RUN_AS: &str = "run popd as that user, by User= in a unit or runuser(1)";
-
 /// What is wrong with an address that isn't loopback.
 const UNENCRYPTED: &str = "password and mail go over the network unencrypted";
 
-/// Why neither of two files is removed.
-const MAY_DIFFER: &str = "have one unique-id but may be different messages";
+/// Writes why a message wasn't removed: what is where it was listed, or another file with its unique-id.
+fn write_not_removed<W: Write>(f: &mut Formatter<W>, listed: &str, other: &str) -> fmt::Result
+    ensures { WritesOnOk W.write_str_gives f.old result (not_removed listed.now other.now) f.new }
+{
+    let (listed_path, other_path) = (Shown(listed), Shown(other));
+    if listed == other {
+        return write!(f, "not removed: {listed_path} isn't as it was listed");
+    }
+    write!(
+        f,
+        "not removed: {listed_path} and {other_path} have one unique-id but may be different messages"
+    )
+}
 
 impl<'a> Display for Warning<'a> {
     ghost use Rattle.std.specs.Prelude.{Some};
@@ -109,17 +115,11 @@ impl<'a> Display for Warning<'a> {
                 "others than its owner may read or write {}",
                 Shown(path)
             ),
-            Warning::OtherOwner(path, owner) => {
-                write!(f, "{} belongs to user {owner}: {RUN_AS}", Shown(path))
-            }
             Warning::Network(address) => write!(f, "{address} isn't loopback: {UNENCRYPTED}"),
             Warning::Unread(path) => write!(f, "cannot read {}", Shown(path)),
-            Warning::NotRemoved(two) => write!(
-                f,
-                "not removed: {} and {} {MAY_DIFFER}",
-                Shown(two.listed.as_str()),
-                Shown(two.other.as_str())
-            ),
+            Warning::NotRemoved(two) => {
+                write_not_removed(f, two.listed.as_str(), two.other.as_str())
+            }
             Warning::Cut(client, fault) => write!(f, "{client}: {}", words_of_fault(fault)),
         }
     }
@@ -130,39 +130,12 @@ pub fn warn<R: Eprint>(rt: &R, warning: Warning<'_>) {
     let _ = rt.eprintln(format_args!("popd: warning: {warning}"));
 }
 
-/// What was found in a folder's place: whether it leads to a folder, and by a link.
-#[derive(Clone, Copy)]
-pub struct FolderFound {
-    pub is_folder: bool,
-    pub is_link: bool,
-}
-
-impl FolderFound {
-    /// Whether files can be served from it. The superuser follows no link to a folder.
-    fn is_served(self, is_superuser: bool) -> bool
-        ensures { result ≡ is_served is_superuser self }
-    {
-        self.is_folder && !(is_superuser && self.is_link)
-    }
-}
-
-/// What was found of an account's files: the password file's mode, the Maildir's owner, and its folders.
+/// What was found of an account's files: the password file's mode, and which folders the Maildir has.
 #[derive(Clone, Copy)]
 pub struct Findings {
-    pub is_superuser: bool,
     pub passfile: Option<u32>,
-    pub owner: Option<u32>,
-    pub new_folder: FolderFound,
-    pub cur_folder: FolderFound,
-}
-
-impl Findings {
-    /// Whether the superuser serves another user's Maildir.
-    fn is_others(self) -> bool
-        ensures { result ≡ is_others self }
-    {
-        self.is_superuser && self.owner.unwrap_or(0) != 0
-    }
+    pub has_new: bool,
+    pub has_cur: bool,
 }
 
 /// Whether others than its owner may read or write a file of this mode.
@@ -206,40 +179,21 @@ fn warnings_of<'a>(
     add_if(&mut warnings, no_user, Warning::NoUser)?;
     add_if(&mut warnings, no_password, Warning::NoPassword)?;
     add_if(&mut warnings, is_open, Warning::OpenPassfile(passfile))?;
-    let other_owner = Warning::OtherOwner(maildir, found.owner.unwrap_or(0));
-    add_if(&mut warnings, found.is_others(), other_owner)?;
-    let no_new = !found.new_folder.is_served(found.is_superuser);
+    let (no_new, no_cur) = (!found.has_new, !found.has_cur);
     add_if(&mut warnings, no_new, Warning::NoFolder(maildir, "new"))?;
-    let no_cur = !found.cur_folder.is_served(found.is_superuser);
     add_if(&mut warnings, no_cur, Warning::NoFolder(maildir, "cur"))?;
     Ok(warnings)
 }
 
-/// Whether this process may open the files of all users.
-fn is_superuser() -> bool {
-    libc::geteuid() == 0
-}
-
-/// What is in the place of a Maildir's folder. A link matters only to the superuser.
-fn look_at<R: Files + AllocGlobal>(
+/// Whether a Maildir has a folder of this name.
+fn has_folder<R: Files + AllocGlobal>(
     system: &System<'_, R>,
     maildir: &str,
     name: &str,
-) -> Result<FolderFound, AllocError> {
+) -> Result<bool, AllocError> {
     let path = format!(in system.alloc(); "{maildir}/{name}")?;
-    let path = path.as_str();
-    Ok(FolderFound {
-        is_folder: system.stat(path).is_ok_and(|found| found.is_dir()),
-        is_link: is_superuser() && system.lstat(path).is_ok_and(|found| found.is_symlink()),
-    })
-}
-
-/// The owner of a Maildir, which matters only to the superuser.
-fn owner_of<R: Files + AllocGlobal>(system: &System<'_, R>, maildir: &str) -> Option<u32> {
-    if !is_superuser() {
-        return None;
-    }
-    system.stat(maildir).ok().map(|found| found.uid())
+    let found = system.stat(path.as_str());
+    Ok(found.is_ok_and(|found| found.is_dir()))
 }
 
 /// What is found of an account's files.
@@ -250,11 +204,9 @@ fn look_around<R: Files + AllocGlobal>(
 ) -> Result<Findings, AllocError> {
     let passfile = system.stat(passfile);
     Ok(Findings {
-        is_superuser: is_superuser(),
         passfile: passfile.ok().map(|found| found.permissions().mode()),
-        owner: owner_of(system, maildir),
-        new_folder: look_at(system, maildir, "new")?,
-        cur_folder: look_at(system, maildir, "cur")?,
+        has_new: has_folder(system, maildir, "new")?,
+        has_cur: has_folder(system, maildir, "cur")?,
     })
 }
 

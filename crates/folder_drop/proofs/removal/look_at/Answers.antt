@@ -8,5 +8,5 @@ returns g c = (
   (search rules),
   c.in_ok-found.ensures,
   c.if-found.false,
-  λ is. absurd (false≢true (sym c.if-is_in_place.false ∙ c.is_same-is_in_place.ensures.1 is)),
+  λ is. absurd (false≢true (sym c.if-is_same.false ∙ c.is_same.ensures.1 is)),
 )

@@ -8,7 +8,7 @@ returns-in_err-remove_names-clause-takes g c = takes_then g.D.MailFiles.path g.D
     c.remove_copies.ensures.takes c.remove_names.ensures.takes
 
 pub returns-clause-removed : goal.returns-clause-removed
-returns-clause-removed g c = each_removed (g.D.MailFiles.removed c.remove_names.new.files) c.args.listed.now.number c.args.all.now
+returns-clause-removed g c = each_removed (g.D.MailFiles.removed c.remove_names.new.files) c.args.listed.now.stamp.number c.args.all.now
     (λ k d within other. c.remove_names.ensures.takes.names _ _ (c.in_ok-remove_copies.ensures.removed k d within other))
     c.in_ok-remove_names.ensures.removed
 

@@ -12,10 +12,10 @@ returns-in_err-check-clause-takes g c = takes_none g.D.MailFiles.path g.D.MailFi
 
 pub unlink-requires : goal.unlink-requires
 unlink-requires g c = (
-  c.args.file.now.number,
+  c.args.file.now.stamp.number,
   (c.in_ok-there.there, c.in_ok-there.ensures, c.in_ok-check.ensures.0, c.in_ok-check.ensures.1),
 )
 
 pub returns-clause-removed : goal.returns-clause-removed
-returns-clause-removed g c = c.unlink.ensures.removed c.args.file.now.number
+returns-clause-removed g c = c.unlink.ensures.removed c.args.file.now.stamp.number
     (c.in_ok-there.there, c.in_ok-there.ensures, c.in_ok-check.ensures.0, c.in_ok-check.ensures.1)

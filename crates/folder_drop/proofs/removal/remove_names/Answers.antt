@@ -24,12 +24,12 @@ pub loop-file-preserved : goal.loop-file-preserved
 loop-file-preserved g c =
     let more = takes_more g.D.MailFiles.path g.D.MailFiles.looked g.D.MailFiles.removed g.D.MailFiles.sound
     g.D.MailFiles.files
-    (λ (file : Namesake). file.number ≡ c.args.listed.now.number) c.args.all.now c.loop-file.file-index c.file-item.result
+    (λ (file : Namesake). file.stamp.number ≡ c.args.listed.now.stamp.number) c.args.all.now c.loop-file.file-index c.file-item.result
     c.args.files.now c.loop-file.files in
     elim c.if-eq.branch [
       | then-eq+in_ok-remove_name w ↦ rw w.files-is (more w.remove_name.new.files c.loop-file-test.true c.file-item.is c.loop-file.invariant
           (λ _. w.in_ok-remove_name.ensures.removed) w.remove_name.ensures.takes)
-      | else-eq w ↦ let differs : c.file-item.result.number ≢ c.args.listed.now.number = first_of
+      | else-eq w ↦ let differs : c.file-item.result.stamp.number ≢ c.args.listed.now.stamp.number = first_of
           (search rules, grind (arith, common_steps)) in
           rw w.files-is (more c.loop-file.files c.loop-file-test.true c.file-item.is c.loop-file.invariant
           (λ is. absurd (differs is)) (takes_none g.D.MailFiles.path g.D.MailFiles.looked g.D.MailFiles.removed

@@ -1,8 +1,5 @@
 use Rattle.popd_program.proofs.warning.WarningDisplay.fmt.Goals as goal
 
-pub returns-in-OtherOwner-clause-writes : goal.returns-in-OtherOwner-clause-writes
-returns-in-OtherOwner-clause-writes g c = rw c.in-OtherOwner.is c.write-in-OtherOwner.ensures.writes
-
 pub returns-in-Network-clause-writes : goal.returns-in-Network-clause-writes
 returns-in-Network-clause-writes g c = rw c.in-Network.is c.write-in-Network.ensures.writes
 
@@ -11,4 +8,4 @@ returns-in-NotRemoved-clause-writes g c = rw (
   c.in-NotRemoved.is,
   ← c.as_str.ensures.value,
   ← c.as_str-in-NotRemoved.ensures.value,
-) c.write-in-NotRemoved.ensures.writes
+) c.write_not_removed.ensures

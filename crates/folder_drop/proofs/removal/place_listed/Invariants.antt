@@ -1,6 +1,0 @@
-use Rattle.std.{proofs.Common.{◌≡◌, false}, specs.List.AllWithin}
-use Rattle.folder_drop.specs.declared.removal.Namesake.{Namesake}
-use Rattle.folder_drop.proofs.removal.place_listed.Given as goal
-
-abbrev pub invariant-loop-place : goal.invariant-loop-place
-invariant-loop-place l = AllWithin (λ (file : Namesake). file.is_in_place ≡ false) l.files 0 l.place
