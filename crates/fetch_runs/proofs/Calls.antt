@@ -32,7 +32,7 @@ use Rattle.fetch_runs.{
   specs.{Sessions.{SessionOverLink, MboxMail, entries_of}, Below.Below},
   specs.Losses.{IsCrashSafe, IsFileLeft, IsMboxSafe, KeepsRecorded, ShowsAll, TrustsMbox, TrustsRecord},
   specs.Calls.{Called, CallsKeepPromises, EmptyAccountsHold, Left, Lost, with_left, IsCall, Shows, DurableMboxesAreSafe},
-  specs.Calls.MboxCallsKeepPromises,
+  specs.{Calls.MboxCallsKeepPromises, Order.{CallsKeepOrder, MboxCallsKeepOrder}},
   specs.Calls.{BeginsWithEntries, KeepsEntries, ShowsMbox},
   specs.Headline.{World, IsSound, HoldsAPrefix, EmptyFrontsBegin, NoneTaken, TakenStaysAway, selected_of, MboxFrontsBegin, IsInOrder},
   specs.Headline.{EntriesMeanTexts, world_without, Headline, MboxHeadline, HoldsAMboxPrefix, IsUnbegun},
@@ -125,57 +125,70 @@ record_durable : {F : Type 0} (file : FileGhosts F) (f : F) (mail : Mail)
 record_durable file f _ state intent stands safe id d =
     (safe.left (stored_in file f).content state.account.rows intent (may_leave_seen file f) stands id d).1
 
-pub calls_keep_promises : Below → {W D F : Type 0} (link : WireGhosts W) (disk : DiskGhosts D) (file : FileGhosts F)
-    → CallsKeepPromises link disk file
-calls_keep_promises laws {W} {D} {F} link disk file = keep
+pub keep_order : Below → {W D F : Type 0} (link : WireGhosts W) (disk : DiskGhosts D) (file : FileGhosts F)
+    → CallsKeepOrder link disk file
+keep_order laws {W} {D} {F} link disk file = record {
+  call = λ mail state devices call shows kept account_is is.
+      let it = calls_leave laws link disk file mail state.account devices call shows account_is is in
+      let here : Invariant mail (with_left mail state it.left) =
+      others_leave_kept mail state (record state.account { maildir = it.left }) kept (left_between mail state it.left kept it.taken) in
+      let account = subst IsAccountText account_is
+      (laws.digits (string_bytes call.settings.server) call.settings.port (string_bytes call.settings.username)) in
+      let (promises, after, adds) =
+      sessions_keep_promises laws mail (with_left mail state it.left) call it.sent it.after account here it.session in (
+        record {
+          left = it.left;
+          taken = it.taken;
+          sent = it.sent;
+          after = it.after;
+          sent_is = it.sent_is;
+          shows = it.shows;
+          taken_is = it.taken_is;
+          promises = promises;
+          safe = λ trust safe.
+              let safe' = left_keeps_safe (file.disk devices.file) mail state it.left kept it.taken safe in
+              let recorded = record_durable file devices.file mail (with_left mail state it.left)
+              shows.intent shows.record_is safe' in
+              calls_keep_safe laws file devices.file call.after.file mail
+              (with_left mail state it.left) call it.sent it.after here it.session it.leaves trust recorded safe';
+        },
+        record {
+          in_order = adds;
+          durable = λ all legal front next clear. calls_keep_order mail (own mail.account account) file devices.file
+              call.after.file (with_left mail state it.left) call it.sent it.after promises adds it.leaves all legal
+              (left_keeps_front mail state it.left kept it.taken all legal front) next clear;
+          recorded = λ trust. it.keeps trust promises.recorded;
+        },
+        after,
+      );
+  others = λ mail state devices left account keeps back all legal front.
+      others_keep_order file devices.file left.file mail state account keeps back all legal front;
+  loss = λ mail state devices left account shows lost all legal front.
+      losses_keep_order mail state account all legal front (rw (shows.maildir, lost.shows.maildir) lost.maildir);
+}
   where
     own : (account : List ℕ) → IsAccountText account → (m : Message) → names_id account m.uid (name_of account m.uid (length m.text)) ≡ true
     own account text m = (bytes_eq-Decides (stem_of account m.uid) _).1 (sym (laws.stems account m.uid (length m.text) text))
 
+pub calls_keep_promises : Below → {W D F : Type 0} (link : WireGhosts W) (disk : DiskGhosts D) (file : FileGhosts F)
+    → CallsKeepOrder link disk file → CallsKeepPromises link disk file
+calls_keep_promises laws {W} {D} {F} link disk file order = keep
+  where
     keep : CallsKeepPromises link disk file
     keep mail state devices [] shows kept = (shows, kept)
     keep mail state devices (Called call ∷ later) shows kept = (
       shows,
       kept,
       λ account_is is.
-          let it = calls_leave laws link disk file mail state.account devices call shows account_is is in
-          let here : Invariant mail (with_left mail state it.left) =
-          others_leave_kept mail state (record state.account { maildir = it.left }) kept (left_between mail state it.left kept it.taken) in
-          let account = subst IsAccountText account_is
-          (laws.digits (string_bytes call.settings.server) call.settings.port (string_bytes call.settings.username)) in
-          let done = sessions_keep_promises laws mail (with_left mail state it.left) call it.sent it.after account here it.session in (
-            record {
-              left = it.left;
-              taken = it.taken;
-              sent = it.sent;
-              after = it.after;
-              sent_is = it.sent_is;
-              shows = it.shows;
-              taken_is = it.taken_is;
-              promises = done.0;
-              safe = λ trust safe.
-                  let safe' = left_keeps_safe (file.disk devices.file) mail state it.left kept it.taken safe in
-                  let recorded = record_durable file devices.file mail (with_left mail state it.left)
-                  shows.intent shows.record_is safe' in
-                  calls_keep_safe laws file devices.file call.after.file mail
-                  (with_left mail state it.left) call it.sent it.after here it.session it.leaves trust recorded safe';
-              keeps = λ trust. it.keeps trust done.0.recorded;
-              in_order = λ all legal front next clear. calls_keep_order mail (own mail.account account) file devices.file
-                  call.after.file (with_left mail state it.left) call it.sent it.after done.0 it.leaves all legal
-                  (left_keeps_front mail state it.left kept it.taken all legal front) next clear;
-            },
-            keep mail _ call.after later it.shows done.1,
-          ),
+          let (promised, _, after) = order.call mail state devices call shows kept account_is is in
+          (promised, keep mail _ call.after later promised.shows after),
     )
     keep mail state devices (Left left account ∷ later) shows kept = (
       shows,
       kept,
       λ then between. (
-        λ keeps. (
-          λ safe. others_keep_safe laws file devices.file left.file mail state account then.intent kept then.record_is between keeps
-              (record_durable file devices.file mail state shows.intent shows.record_is safe) safe,
-          λ back all legal front. others_keep_order file devices.file left.file mail state account keeps back all legal front,
-        ),
+        λ keeps safe. others_keep_safe laws file devices.file left.file mail state account then.intent kept then.record_is between keeps
+            (record_durable file devices.file mail state shows.intent shows.record_is safe) safe,
         keep mail (state_with mail state [] account) left later then (others_leave_kept mail state account kept between),
       ),
     )
@@ -188,7 +201,6 @@ calls_keep_promises laws {W} {D} {F} link disk file = keep
           lost.shows.intent kept safe loses lost.record_is.is lost.shows.record_is in (
             durable_is_safe laws file left.file mail (record state { account = account }) lost.shows.intent now lost.shows.record_is
                 (all_left_durable mail.account state.account.maildir account.maildir loses) lost.record_is.durable,
-            λ all legal front. losses_keep_order mail state account all legal front loses,
             keep mail (record state { account = account }) left later lost.shows now,
           ),
     )
@@ -209,7 +221,9 @@ pub mbox_calls_append : Below → {W D F : Type 0} (link : WireGhosts W) (disk :
     → (holds : HoldsEntries base done account) → call.settings.read_all ≡ false
     → IsCall link disk file InMbox file.sound (IsTextOf base) devices call → (sent : List ℕ) × (after : MboxMail)
     × ((link.history call.wire').sent ≡ (link.history call.wire).sent ++ sent)
-    × ShowsMbox file call.after after × AppendsMail base holds call sent after
+    × ShowsMbox file call.after after × (appends : AppendsMail base holds call sent after)
+    × ((all : List Message) → (front : IsMboxFront base holds all)
+    → ShowsNext call.settings call.maildrop (front.first ++ done) front.rest → IsMboxFront base appends.kept all)
 mbox_calls_append laws link _ file sessions base _ account devices call shows holds only_new is =
     let (_, _, _, _, (ran, durably)) = sessions call.now (record { settings = call.settings; store = _; file = devices.file })
     (record { settings = call.settings; store = _; file = call.after.file }) call.wire call.wire' call.report is.made.1 is.made.2
@@ -217,15 +231,10 @@ mbox_calls_append laws link _ file sessions base _ account devices call shows ho
     let s = (mbox_sessions_lose_nothing laws call.settings call.now (link.history call.wire)
     (mbox_account_files (stored_in file devices.store) (stored_in file devices.file))
     (record { rows = account.rows; intent = account.intent }) call.report (link.history call.wire')
-    (mbox_account_files (stored_in file call.after.store) (stored_in file call.after.file)) is.made.0 shows.record_is ran).0 in (
-      s.sent,
-      _,
-      s.sent_is,
-      record { record_is = s.keeps; bytes = refl },
-      appends _ laws holds (open_row laws _ _ _
-          shows.record_is) call s.sent _ s.effect is.maildrop only_new (is.served s.sent s.got s.sent_is s.got_is)
-          (rw (← shows.bytes) at s.session),
-    )
+    (mbox_account_files (stored_in file call.after.store) (stored_in file call.after.file)) is.made.0 shows.record_is ran).0 in
+    let (one, in_order) = appends _ laws holds (open_row laws _ _ _ shows.record_is) call s.sent _ s.effect is.maildrop only_new
+    (is.served s.sent s.got s.sent_is s.got_is) (rw (← shows.bytes) at s.session) in
+    (s.sent, _, s.sent_is, record { record_is = s.keeps; bytes = refl }, one, in_order)
 
 -- what may be left of the record's file after a call
 mbox_calls_keep_recorded : Below → {W D F : Type 0} (link : WireGhosts W) (disk : DiskGhosts D) (file : FileGhosts F)
@@ -303,7 +312,7 @@ entered_since base done new id = ⊎_elim
     (cases_Bool (base.had id))
 
 -- what the file is that holds entries
-stands_as : (base : Base) (bytes : List ℕ) (account : MboxMail) → Stands base bytes account
+pub stands_as : (base : Base) (bytes : List ℕ) (account : MboxMail) → Stands base bytes account
     → (part : List ℕ) × (account.file ≡ bytes ++ part)
 stands_as base bytes account stands = elim stands [
   | inl is ↦ ([], is.1 ∙ sym (append-nil bytes))
@@ -327,6 +336,23 @@ mbox_losses_keep file base done account devices left now shows holds then safe m
       begins = (part, then.bytes ∙ whole);
     }
 
+pub mbox_keep_order : Below → {W D F : Type 0} (link : WireGhosts W) (disk : DiskGhosts D) (file : FileGhosts F)
+    → MboxSessions link disk file → MboxCallsKeepOrder link disk file
+mbox_keep_order laws link disk file sessions base done account devices call shows holds only_new is =
+    let (sent, after, sent_is, shows', one, in_order) = mbox_calls_append laws link disk file sessions base done account devices call
+    shows holds only_new is in (
+      sent,
+      after,
+      sent_is,
+      shows',
+      one,
+      record {
+        in_order = in_order;
+        recorded = mbox_calls_keep_recorded laws link disk file sessions base account after devices call shows is shows'
+            (λ id recorded. one.kept.recorded id ∙ entered_more base done one.more id (sym (holds.recorded id) ∙ recorded));
+      },
+    )
+
 pub mbox_calls_keep_promises : Below → {W D F : Type 0} (link : WireGhosts W) (disk : DiskGhosts D) (file : FileGhosts F)
     → MboxSessions link disk file → MboxCallsKeepPromises link disk file
 mbox_calls_keep_promises laws link disk file sessions = keep
@@ -337,7 +363,7 @@ mbox_calls_keep_promises laws link disk file sessions = keep
       shows,
       holds,
       λ only_new is.
-          let (sent, after, sent_is, shows', one) = mbox_calls_append laws link disk file sessions base done account
+          let (sent, after, sent_is, shows', one, _) = mbox_calls_append laws link disk file sessions base done account
           devices call shows holds only_new is in (
             sent,
             after,
@@ -351,8 +377,6 @@ mbox_calls_keep_promises laws link disk file sessions = keep
                 let (first, there) = safe rows intent left bytes may keeps also in (first, (there, λ _ never. absurd never)))
                 rows intent left bytes may keeps also in
                 (first, there.0),
-            mbox_calls_keep_recorded laws link disk file sessions base account after devices call shows is shows'
-                (λ id recorded. one.kept.recorded id ∙ entered_more base done one.more id (sym (holds.recorded id) ∙ recorded)),
             keep base (done ++ one.more) after call.after later shows' one.kept,
           ),
     )
@@ -382,7 +406,7 @@ recorded_is {done = done} is id = is.holds.recorded id ∙ ap (λ b. b || has_id
     ∙ sym (ids_both is.front.first done id)
 
 -- of distinct messages in a row the first that have these ids are the same ones
-same_front : (ms ns rest more : List Message) → ms ++ rest ≡ ns ++ more → Distinct (message_ids (ms ++ rest))
+pub same_front : (ms ns rest more : List Message) → ms ++ rest ≡ ns ++ more → Distinct (message_ids (ms ++ rest))
     → ((id : List ℕ) → has_id (message_ids ms) id ≡ has_id (message_ids ns) id) → ms ≡ ns
 same_front [] [] _ _ _ _ _ = refl
 same_front [] (n ∷ ns) _ _ _ _ same = absurd (both_ways _ (sym (same n.uid)) (or_left _ _ (bytes_self n.uid)))
@@ -589,28 +613,28 @@ legal_selected : (world : World Mail) → IsSound world → AllByRecursion (λ (
 legal_selected _ sound = all_filter _ _ _ (all_map _ sound.all.each (λ m is. is.legal))
 
 pub headline : {W D F : Type 0} (link : WireGhosts W) (disk : DiskGhosts D) (file : FileGhosts F)
-    → CallsKeepPromises link disk file → Headline link disk file
-headline link disk file promised = all_hold
+    → CallsKeepOrder link disk file → CallsKeepPromises link disk file → Headline link disk file
+headline link disk file order promised = all_hold
   where
     all_hold : Headline link disk file
     all_hold world state _ [] sound shows kept front = (shows, holds_a_prefix world state sound front kept)
     all_hold world state devices (Called call ∷ later) sound shows kept front = (
       shows,
       holds_a_prefix world state sound front kept,
-      λ withdrawn none order account_is is clear.
-          let (promises, (after_shows, after_kept)) = (promised world.start state devices (Called call ∷ []) shows kept).2 account_is is in
+      λ withdrawn none shown_is account_is is clear.
+          let (promises, keeps, after_kept) = order.call world.start state devices call shows kept account_is is in
           let clear' = ap (λ (m : Maildir). m.odd) promises.shows.maildir ∙ clear in
           let (sound', front', same) = withdrawn_leave_fronts world state withdrawn sound front none in
           let legal = legal_selected (world_without withdrawn world) sound' in
           let shown : (f : IsFront world.start state (selected_of (world_without withdrawn world)))
           → ShowsNext call.settings call.maildrop f.done f.rest =
           λ f. order_shows_next (ComesFor world.start) world.size_limit (world_without withdrawn world).all f.done f.rest
-          call.settings call.maildrop sound'.all f.prefix (in_order (λ id (l, safe). f.is_done id l ∙ safe) order) in (
+          call.settings call.maildrop sound'.all f.prefix (in_order (λ id (l, safe). f.is_done id l ∙ safe) shown_is) in (
             promises,
             (
               λ durable.
                   let (sound'', is', done_is) = withdrawn_leave_fronts world state withdrawn sound durable.is none in
-                  promises.in_order (selected_of (world_without withdrawn world)) legal (record {
+                  keeps.durable (selected_of (world_without withdrawn world)) legal (record {
                     is = is';
                     first = durable.first;
                     last = durable.last;
@@ -618,8 +642,8 @@ headline link disk file promised = all_hold
                     at_most_one = durable.at_most_one;
                     named = durable.named;
                   }) (shown is') clear',
-              all_hold (world_without withdrawn world) _ call.after later sound' after_shows after_kept
-                  (promises.promises.in_order _ legal (left_front world.start state promises.left kept promises.taken _
+              all_hold (world_without withdrawn world) _ call.after later sound' promises.shows after_kept
+                  (keeps.in_order _ legal (left_front world.start state promises.left kept promises.taken _
                   front') (shown front') clear').0,
             ),
           ),
@@ -637,8 +661,9 @@ headline link disk file promised = all_hold
           shows,
           holds_a_prefix world state sound front kept,
           λ safe durable lost.
-              let (safe', fronts, (after_shows, after_kept)) = loss safe lost in
-              all_hold world _ left later sound after_shows after_kept (fronts (selected_of world) (legal_selected world sound) durable).is,
+              let (safe', (after_shows, after_kept)) = loss safe lost in
+              all_hold world _ left later sound after_shows after_kept (order.loss world.start state devices left account shows lost
+              (selected_of world) (legal_selected world sound) durable).is,
         )
 
 pub mbox_headline : Below → {W D F : Type 0} (link : WireGhosts W) (disk : DiskGhosts D) (file : FileGhosts F)
@@ -652,7 +677,7 @@ mbox_headline laws link disk file sessions = all_hold
       is,
       λ withdrawn unbegun order only_new called.
           let (sound', front) = withdrawn_leave_prefixes world done account withdrawn sound is unbegun in
-          let (sent, after, sent_is, shows', one) = mbox_calls_append laws link disk file sessions world.start done
+          let (sent, after, sent_is, shows', one, fronts) = mbox_calls_append laws link disk file sessions world.start done
           account devices call shows is.holds only_new called in
           let shown = order_shows_next (IsTextOf world.start) world.size_limit (world_without withdrawn world).all
           (front.first ++ done) front.rest call.settings call.maildrop sound' front.prefix
@@ -673,14 +698,14 @@ mbox_headline laws link disk file sessions = all_hold
                 (λ all. all ≡ selected_of (world_without withdrawn world)) done (done ++ one.more) account after devices call shows is.holds
                 (λ _ same. subst (λ (l : List Message). (f : IsMboxFront world.start is.holds l)
                 × ShowsNext call.settings call.maildrop (f.first ++ done) f.rest) (sym same) (front, shown))
-                only_new called shows' (among (done ++ one.more) after one.kept (one.in_order _ front shown)) trust
+                only_new called shows' (among (done ++ one.more) after one.kept (fronts _ front shown)) trust
                 (λ rows intent left bytes may keeps also.
                 let (first, (there, unbegun)) = safe rows intent left bytes may keeps also in
                 (first, among first _ there.holds (withdrawn_leave_prefixes world first _ withdrawn sound there unbegun).1))
                 rows intent left bytes may keeps also in
                 (first, record { holds = there.0; front = there.1 _ refl }),
             all_hold (world_without withdrawn world) (done ++ one.more) after call.after later sound' shows'
-                (record { holds = one.kept; front = one.in_order _ front shown }),
+                (record { holds = one.kept; front = fronts _ front shown }),
           ),
     )
     all_hold world done account devices (Left left now ∷ later) sound shows is =

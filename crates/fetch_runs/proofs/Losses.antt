@@ -22,7 +22,7 @@ use Rattle.fetch_runs.{
   specs.{Calls.with_left, Accounts.{AccountMail, copies, has_named, without_flags, message_ids}, Below.Below},
   specs.Promises.{IsBetween, Mail, State, is_safe, state_with, IsFront, Invariant, Promises, ShowsNext, Call},
   specs.Losses.{DurableAccountsAreSafe, DurableFrontsBegin, IsCrashSafe, IsDurableFront, IsDurableFor, IsFlushedFor, TrustsRecord},
-  specs.Losses.{KeepsDurable, is_durable},
+  specs.{Losses.{KeepsDurable, is_durable}, Order.AddsToFronts},
   proofs.{Promised.IsSession, Safety.served_session, State.came_too, LeftRecords.{LeavesDurably, all_named, kept_legal}},
   proofs.Lists.{fewer_copies, held_some, part_copies, reached_copies, some_held, all_append, all_both, all_filter, all_front, all_ids_at},
   proofs.Lists.{all_map, bytes_same, same_kept_rows, all_at, ids_both, members, all_back, none_or_one},
@@ -271,7 +271,7 @@ or_on : {a b : Bool} (c : Bool) → (a ≡ true → b ≡ true) → (a || c) ≡
 or_on c on some = ⊎_elim (λ is. or_left _ _ (on is)) (or_right _ _) (or_cases _ _ some)
 
 -- what is durable is safe afterwards
-is_safe_after : (mail : Mail) (state : State) (after : AccountMail) → LosesPower state.account.maildir after.maildir
+pub is_safe_after : (mail : Mail) (state : State) (after : AccountMail) → LosesPower state.account.maildir after.maildir
     → (id : List ℕ) → is_durable mail state id ≡ true → is_safe mail (record state { account = after }) id ≡ true
 is_safe_after _ _ after loses _ = or_on _ (any_left _ _ _ loses.files)
 
@@ -323,7 +323,7 @@ pub safe_bits : (held taken held' named : Bool) → (held' ≡ true → (held ||
     → (held || taken) ≡ (held' || (((held || taken) && not held') || (taken && not named)))
 safe_bits _ _ _ _ back = grind (arith, back)
 
-same_bits : (a b : Bool) → (a ≡ true → b ≡ true) → (b ≡ true → a ≡ true) → a ≡ b
+pub same_bits : (a b : Bool) → (a ≡ true → b ≡ true) → (b ≡ true → a ≡ true) → a ≡ b
 same_bits a b f g = grind (arith, f, g)
 
 abbrev AreLegalMessages : List Message → Type 0
@@ -434,6 +434,7 @@ module _ (mail : Mail) (own : (m : Message) → names_id mail.account m.uid (nam
 
   module _ {W S F G : Type 0} (store : FileGhosts F) (from f : F) (state : State) (call : Call W S G) (sent : List ℕ)
       (now : AccountMail) (promises : Promises mail state call sent now)
+      (adds : AddsToFronts mail state call promises.came now)
       (leaves : LeavesDurably store mail.account from f state.account now)
       (all : List Message) (legal : AreLegalMessages all) (front : IsDurableFront mail state all)
       (next : ShowsNext call.settings call.maildrop front.is.done front.is.rest) (clear : now.maildir.odd ≡ []) where
@@ -445,7 +446,7 @@ module _ (mail : Mail) (own : (m : Message) → names_id mail.account m.uid (nam
 
     later : (later : IsFront mail after all) × (later.done ≡ front.is.done ++ filter
         (λ (m : Message). not (has_id (message_ids front.is.done) m.uid)) promises.came)
-    later = promises.in_order all legal front.is next clear
+    later = adds all legal front.is next clear
 
     on : (id : List ℕ) → is_durable mail state id ≡ true → is_durable mail after id ≡ true
     on = durable_call store from f mail state call.vanished now leaves

@@ -515,9 +515,14 @@ module _ (base : Base) where
           → ShowsNext v.settings v.maildrop (front.first ++ done) front.rest → IsMboxFront base holds all)
           × ((o : IsOpenFor base (bytes_of now) after) → holds.stands ≡ inr o → IsPart after o.next o.part)
 
+      -- it appends, and keeps the order of messages
+      abbrev AppendsInOrder : Type 0
+      AppendsInOrder = (one : AppendsMail base kept v sent after) × ((all : List Message) → (front : IsMboxFront base kept all)
+          → ShowsNext v.settings v.maildrop (front.first ++ done) front.rest → IsMboxFront base one.kept all)
+
       pub appends : {got : List ℕ} (effect : Effect) → IsMaildrop (IsTextOf base) v.maildrop → v.settings.read_all ≡ false
           → Served v.maildrop sent got v.vanished
-          → MboxSessionOverLink v.settings before sent got v.report effect after → AppendsMail base kept v sent after
+          → MboxSessionOverLink v.settings before sent got v.report effect after → AppendsInOrder
       appends effect maildrop only_new served session =
           let step = mbox_served_session laws session served in
           elim step.0 [
@@ -547,24 +552,26 @@ module _ (base : Base) where
                 ))
           ]
         where
-          by : (more : List Message) → Leaves (done ++ more) → AppendsMail base kept v sent after
-          by more (holds, keeps, in_order, part) = record {
-            more = more;
-            kept = holds;
-            closed = keeps.closed;
-            found = keeps.found;
-            fetched = λ uncut. let (texts, is, count) = keeps.fetched uncut in (
-              texts,
-              append_cancel_left done more (keeps.found ++ texts) (is ∙ append_assoc done keeps.found texts),
-              count,
-            );
-            wanted = keeps.wanted;
-            deletes = keeps.deletes;
-            retrieved = keeps.retrieved;
-            vanished = keeps.vanished;
-            part = part;
-            in_order = in_order;
-          }
+          by : (more : List Message) → Leaves (done ++ more) → AppendsInOrder
+          by more (holds, keeps, in_order, part) = (
+            record {
+              more = more;
+              kept = holds;
+              closed = keeps.closed;
+              found = keeps.found;
+              fetched = λ uncut. let (texts, is, count) = keeps.fetched uncut in (
+                texts,
+                append_cancel_left done more (keeps.found ++ texts) (is ∙ append_assoc done keeps.found texts),
+                count,
+              );
+              wanted = keeps.wanted;
+              deletes = keeps.deletes;
+              retrieved = keeps.retrieved;
+              vanished = keeps.vanished;
+              part = part;
+            },
+            in_order,
+          )
 
 pub mbox_begins : MboxStarts
 mbox_begins _ account closed = record {

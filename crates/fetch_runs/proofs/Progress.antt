@@ -1,32 +1,37 @@
 -- Counting: over a maildrop that stays, but for messages that are done, each uncut call that reads only what is new records
 -- as many more messages as its limit says, or all.
 use Rattle.std.{
-  proofs.Common.{◌≡◌, ◌⊎◌, inl, inr, ◌≤◌, ◌+◌, ◌*◌, ℕ, zero, suc, List, [], ◌∷◌, ◌++◌, Bool, true, false, not, ◌&&◌, length},
-  proofs.Common.{take, refl, sym, subst, ap, arith, ◌∙◌, cond, Option},
-  proofs.lemmas.{Bool.{and_parts, both_ways, cases_Bool, not-false, not-true, or_left}, List.Filters.length-filter_both, Nat.mul-le},
+  proofs.Common.{◌≡◌, ◌≢◌, ◌⊎◌, inl, inr, ◌≤◌, ◌+◌, ◌*◌, ◌==◌, ℕ, zero, suc, List, [], ◌∷◌, ◌++◌, Bool, true, false, not, ◌&&◌, ◌||◌},
+  proofs.Common.{take, refl, sym, subst, ap, arith, ◌∙◌, cond, Option, bytes_eq, length, map},
+  proofs.lemmas.{Bool.{and_parts, both_ways, cases_Bool, not-false, not-true, or_left, Decides.nat_tests}, Nat.mul-le},
+  proofs.lemmas.List.{length-map, Filters.length-filter_both},
   proofs.Math.Logic.⊎_elim,
   specs.List.{filter, AllByRecursion},
 }
 use Rattle.pop3_wire.specs.{declared.wire.Wire.Ghosts as WireGhosts, World.Message}
 use Rattle.mail_terms.specs.UniqueId.{has_id}
 use Rattle.rc_file.specs.declared.settings.Settings.{Settings}
-use Rattle.fetch_rules.{specs.{Limits.SetsSizeLimit, Wanted.at_most}, proofs.PlanLemmas.{at_most_firsts, sizes_within}}
+use Rattle.fetch_rules.{specs.{Limits.SetsSizeLimit, Wanted.{at_most, fitting}}, proofs.PlanLemmas.{at_most_firsts, sizes_within}}
 use Rattle.fetch_record.specs.{Record.{Intent, Row, is_delivered}, RecordMeaning.FileStandsFor}
 use Rattle.mail_store.specs.{
   Devices.stored_in,
   Durable.Disk,
   declared.{maildir.disk.MaildirDisk.Ghosts as DiskGhosts, file.flat_file.FlatFile.Ghosts as FileGhosts},
-  Maildir.Maildir,
+  FileName.is_held,
+  Maildir.{Maildir, WereTaken},
 }
 use Rattle.session_parts.specs.declared.report.Outcome.{Outcome, TheVariants.{Ended, Cut}}
 use Rattle.fetch_runs.{
-  specs.{Accounts.{is_selected}, Below.Below, Losses.{IsFileLeft, KeepsRecorded, ShowsAll}},
+  specs.{Accounts.{has_named, is_selected, message_ids, selected, texts_of}, Below.Below, Losses.{IsFileLeft, KeepsRecorded, ShowsAll}},
   proofs.Calls.entered_more,
-  specs.Calls.{Called, CallsKeepPromises, Left, Lost, MboxCallsKeepPromises},
-  specs.Promises.{Call, FetchesWanted, may_fetch},
-  specs.Progress.{Aim, CallsGetFar, CountsOn, HasCome, IsFar, IsTowards, MboxCallsGetFar, aimed, count_done, share, uncut_after},
+  specs.{Calls.{Called, CallsKeepPromises, Left, Lost, with_left}, Order.{CallsKeepOrder, MboxCallsKeepOrder}},
+  specs.Promises.{Call, FetchesWanted, Invariant, Mail, State, is_entered, is_safe, may_fetch},
+  specs.Progress.{Aim, CallsGetFar, CallsRecordTheLimit, CountsOn, HasCome, IsFar, IsTowards, MboxCallsGetFar, aimed, count_done},
+  specs.Progress.{share, uncut_after},
   proofs.Core.message_size,
-  proofs.Lists.{all_back, all_filter, all_front, all_ids_at, all_map, filter-filter, filter-swap, same_kept_rows},
+  proofs.Lists.{all_back, all_filter, all_front, all_ids_at, all_map, filter-filter, filter-swap, same_kept_rows, bytes_swap, Distinct},
+  proofs.Lists.{all_at, distinct_filter, distinct_is, each_text, ids_both, no_texts},
+  proofs.{Losses.held_back, Promised.{at_most_fits, no_more_than}},
 }
 
 -- ---- counting
@@ -210,6 +215,109 @@ module _ (aim : Aim) where
           ⊎_elim (λ more. ⊎_elim (λ enough. inl (omega (arith, one, enough, l, more))) (λ all. inr (omega (arith, all, l, more))) far)
           (λ all. inr all) (farther aim call is_odd is_done known after is clear wanted recorded knows stays uncut)
 
+-- ---- no call gets farther than its limit
+
+-- of which one or the other is so
+either_fewer : {X : Type 0} (p q r : X → Bool) → ((x : X) → p x ≡ true → (q x || r x) ≡ true) → (xs : List X)
+    → length (filter p xs) ≤ length (filter q xs) + length (filter r xs)
+either_fewer {X} p q r within [] = let none : length {A = X} [] ≤ length {A = X} [] + length {A = X} [] = omega arith in none
+either_fewer {X} p q r within (x ∷ xs) = by (either_fewer p q r within xs) (p x) (q x) (r x) (within x)
+  where
+    by : length (filter p xs) ≤ length (filter q xs) + length (filter r xs) → (a b c : Bool) → (a ≡ true → (b || c) ≡ true)
+        → length (cond a (x ∷ filter p xs) (filter p xs))
+        ≤ length (cond b (x ∷ filter q xs) (filter q xs)) + length (cond c (x ∷ filter r xs) (filter r xs))
+    by l true true true _ = let s : length (x ∷ filter p xs) ≤ length (x ∷ filter q xs) + length (x ∷ filter r xs) = omega (arith, l) in s
+    by l true true false _ = let s : length (x ∷ filter p xs) ≤ length (x ∷ filter q xs) + length (filter r xs) = omega (arith, l) in s
+    by l true false true _ = let s : length (x ∷ filter p xs) ≤ length (filter q xs) + length (x ∷ filter r xs) = omega (arith, l) in s
+    by l true false false w = absurd (both_ways false refl (w refl))
+    by l false true true _ = let s : length (filter p xs) ≤ length (x ∷ filter q xs) + length (x ∷ filter r xs) = omega (arith, l) in s
+    by l false true false _ = let s : length (filter p xs) ≤ length (x ∷ filter q xs) + length (filter r xs) = omega (arith, l) in s
+    by l false false true _ = let s : length (filter p xs) ≤ length (filter q xs) + length (x ∷ filter r xs) = omega (arith, l) in s
+    by l false false false _ = l
+
+-- of distinct messages at most one has an id
+one_of_id : (xs : List Message) (id : List ℕ) → Distinct (message_ids xs)
+    → length (filter (λ (m : Message). bytes_eq id m.uid) xs) ≤ 1
+one_of_id xs id d = ⊎_elim
+    (λ there. let (text, one) = all_at (λ x. (text : List ℕ) × (texts_of xs x ≡ text ∷ [])) xs
+    (all_map _ (each_text xs d) (λ m e. (m.text, e))) there in
+    let l : length (texts_of xs id) ≡ 1 = rw one refl in
+    omega (arith, l, length-map (filter (λ (m : Message). bytes_eq id m.uid) xs) (λ (m : Message). m.text)))
+    (λ none. let l : length (texts_of xs id) ≡ 0 = rw (no_texts xs id none) refl in
+    omega (arith, l, length-map (filter (λ (m : Message). bytes_eq id m.uid) xs) (λ (m : Message). m.text)))
+    (cases_Bool (has_id (message_ids xs) id))
+
+none_pass : (xs : List Message) → length (filter (λ (m : Message). has_id (message_ids []) m.uid) xs) ≤ length {A = Message} []
+none_pass [] = let none : length {A = Message} [] ≤ length {A = Message} [] = omega arith in none
+none_pass (x ∷ xs) = none_pass xs
+
+-- at most as many of them are among these as there are of these
+pub among : (came xs : List Message) → Distinct (message_ids xs)
+    → length (filter (λ (m : Message). has_id (message_ids came) m.uid) xs) ≤ length came
+among [] xs d = none_pass xs
+among (c ∷ came) xs d =
+    let l = among came xs d in
+    let one = one_of_id xs c.uid d in
+    let both = either_fewer (λ (m : Message). has_id (message_ids (c ∷ came)) m.uid) (λ (m : Message). bytes_eq c.uid m.uid)
+    (λ (m : Message). has_id (message_ids came) m.uid) (λ m is. rw (bytes_swap c.uid m.uid) is) xs in
+    let all : length (filter (λ (m : Message). has_id (message_ids (c ∷ came)) m.uid) xs) ≤ length (c ∷ came) =
+    omega (arith, l, one, both) in
+    all
+
+-- a call records no more of the maildrop than was safe, and as many as it may fetch
+module _ {W S F : Type 0} (aim : Aim) (call : Call W S F) (is_done safe after : List ℕ → Bool) (came : List Message)
+    (is : IsTowards aim is_done call) (distinct : Distinct (message_ids call.maildrop))
+    (few : length came ≤ fitting call.settings (map message_size call.maildrop))
+    (was : (id : List ℕ) → is_done id ≡ true → safe id ≡ true)
+    (no_more : (id : List ℕ) → after id ≡ true → (safe id || has_id (message_ids came) id) ≡ true) where
+  abbrev is_new : Message → Bool
+  is_new m = has_id (message_ids came) m.uid && not (safe m.uid)
+
+  abbrev is_left : Message → Bool
+  is_left m = not (has_id is.gone m.uid)
+
+  new_left : (m : Message) → is_new m ≡ true → is_left m ≡ true
+  new_left m new = ⊎_elim (λ there. there) (λ outside. absurd (both_ways (safe m.uid) (not-true (safe m.uid) (and_parts _ _ new).1)
+      (was m.uid (all_ids_at (λ id. is_done id ≡ true) is.gone is.done (not-false (has_id is.gone m.uid) outside)))))
+      (cases_Bool (is_left m))
+
+  new_are : filter is_new (aimed aim) ≡ filter is_new (selected aim.size_limit call.maildrop)
+  new_are = sym (still_unknown is_new is_left new_left (aimed aim))
+      ∙ ap (filter is_new) (filter-swap is_left (is_selected aim.size_limit) aim.maildrop)
+      ∙ ap (λ ms. filter is_new (selected aim.size_limit ms)) (sym is.shown)
+
+  most : count_done aim after ≤ count_done aim safe + length came
+  most =
+      let parts = either_fewer (λ (m : Message). after m.uid) (λ (m : Message). safe m.uid) is_new
+      (λ m is. safe_or_new (safe m.uid) _ (no_more m.uid is)) (aimed aim) in
+      let drop' = selected aim.size_limit call.maildrop in
+      let new = fewer is_new (λ (m : Message). has_id (message_ids came) m.uid) (λ m is. (and_parts _ _ is).0) drop' in
+      let few_are = among came drop' (distinct_filter (is_selected aim.size_limit) call.maildrop distinct) in
+      let same = ap length new_are in
+      omega (arith, parts, new, few_are, same)
+    where
+      safe_or_new : (safe came : Bool) → (safe || came) ≡ true → (safe || (came && not safe)) ≡ true
+      safe_or_new safe came is = grind (arith, is)
+
+  no_farther : count_done aim after ≤ count_done aim safe + share aim
+  no_farther = elim (cases_Bool (aim.count_limit == 0)) [
+    | inl none ↦ let all = no_more_than (λ (m : Message). after m.uid) (aimed aim) in
+        rw none (omega (arith, all))
+    | inr some ↦ let m = rw (is.limits.number, some) at few in
+        let l = most in
+        rw some (omega (arith, m, l))
+  ]
+
+-- what is safe once readers took files away was so before
+safe_before : (mail : Mail) (state : State) (left : Maildir) → Invariant mail state → WereTaken state.account.maildir left
+    → (id : List ℕ) → is_safe mail (with_left mail state left) id ≡ true → is_safe mail state id ≡ true
+safe_before mail state left kept taken id safe = bits (is_held mail.account state.account.maildir id) (state.taken id)
+    (is_held mail.account left id) (has_named mail.account left id) (held_back mail state left kept taken id) safe
+  where
+    bits : (held taken held' named : Bool) → (held' ≡ true → held ≡ true)
+        → (held' || (((held || taken) && not held') || (taken && not named))) ≡ true → (held || taken) ≡ true
+    bits held taken held' named back is = grind (arith, back, is)
+
 -- ---- any list of calls
 
 -- what is so of no call, and of fewer
@@ -270,9 +378,12 @@ come_back laws file aim calls kept from left rows now intent come lost stands =
           stands stands' (lost.durable could may) (omega arith) far;
     }
 
+back_or_came : (before now came : Bool) → (now ≡ true → before ≡ true) → (now || came) ≡ true → (before || came) ≡ true
+back_or_came before now came back is = grind (arith, back, is)
+
 pub get_far : Below → {W D F : Type 0} (link : WireGhosts W) (disk : DiskGhosts D) (file : FileGhosts F)
-    → CallsKeepPromises link disk file → CallsGetFar link disk file
-get_far laws link disk file law = go
+    → CallsKeepOrder link disk file → CallsKeepPromises link disk file → CallsGetFar link disk file
+get_far laws link disk file order law = go
   where
     go : CallsGetFar link disk file
     go mail aim calls kept state devices [] shows holds come = (holds, come)
@@ -280,14 +391,19 @@ get_far laws link disk file law = go
       holds,
       come,
       λ account_is is towards clear.
-          let (promised, (after_shows, after_holds)) = (law mail state devices (Called call ∷ []) shows holds).2 account_is is in
+          let (promised, keeps, after_holds) = order.call mail state devices call shows holds account_is is in
           let clear' : promised.after.maildir.odd ≡ [] = ap (λ (m : Maildir). m.odd) promised.shows.maildir ∙ clear in
           let far = gets_far aim call calls _ towards (λ id. rw clear' refl) promised.promises.wanted (λ m both. both.1)
           (λ id recorded. or_left _ _ recorded) promised.promises.recorded come.far in (
             promised,
-            λ next counts. go mail aim (uncut_after calls call.report.outcome) next _ call.after later after_shows after_holds
+            no_farther aim call (is_delivered state.account.rows) (is_safe mail state) (is_delivered promised.after.rows)
+                promised.promises.came towards (distinct_is call.maildrop is.maildrop.distinct) promised.promises.few
+                (λ id recorded. (holds.recorded id recorded).1)
+                (λ id recorded. back_or_came _ _ _ (safe_before mail state promised.left holds promised.taken id)
+                (promised.promises.no_more id recorded)),
+            λ next counts. go mail aim (uncut_after calls call.report.outcome) next _ call.after later promised.shows after_holds
                 (come_after aim (file.disk devices.file) (file.disk call.after.file) calls kept call.report.outcome
-                state.account.rows promised.after.rows come promised.keeps far next counts),
+                state.account.rows promised.after.rows come keeps.recorded far next counts),
           ),
     )
     go mail aim calls kept state devices (Left left account ∷ later) shows holds come =
@@ -311,38 +427,56 @@ get_far laws link disk file law = go
           holds,
           come,
           λ safe lost.
-              let (_, _, (after_shows, after_holds)) = loss safe lost in (
+              let (_, (after_shows, after_holds)) = loss safe lost in (
                 come_back laws file aim calls kept devices.file left.file state.account.rows account.rows lost.shows.intent come
                     lost.record_is lost.shows.record_is,
                 λ since next again. go mail aim since next _ left later after_shows after_holds again,
               ),
         )
 
+entered_or_text : (had done found text some all : Bool) → some ≡ (done || found) → all ≡ (done || (found || text))
+    → (had || all) ≡ true → ((had || some) || text) ≡ true
+entered_or_text had done found text some all is are both = grind (arith, is, are, both)
+
 pub get_mbox_far : Below → {W D F : Type 0} (link : WireGhosts W) (disk : DiskGhosts D) (file : FileGhosts F)
-    → MboxCallsKeepPromises link disk file → MboxCallsGetFar link disk file
+    → MboxCallsKeepOrder link disk file → MboxCallsGetFar link disk file
 get_mbox_far laws link disk file law = go
   where
     go : MboxCallsGetFar link disk file
     go aim calls kept base done account devices [] shows holds come = (holds, come)
-    go aim calls kept base done account devices (Called call ∷ later) shows holds come =
-        let (_, holds', then) = law base done account devices (Called call ∷ []) shows holds in (
-          holds',
-          come,
-          λ is towards.
-              let (sent, after, _, shows', appends, _, keeps, _) = then towards.only_new is in
-              let stays : (id : List ℕ) → is_delivered account.rows id ≡ true → is_delivered after.rows id ≡ true =
-              λ id recorded. appends.kept.recorded id ∙ entered_more base done appends.more id (sym (holds'.recorded id) ∙ recorded) in
-              let far = gets_far aim call calls (λ id. false) towards (λ id. refl) appends.wanted
-              (λ m entered. appends.kept.recorded m.uid ∙ entered)
-              (λ id recorded. entered_more base done appends.found id (sym (holds'.recorded id) ∙ recorded)) stays come.far in (
-                sent,
-                after,
-                appends,
-                λ next counts. go aim (uncut_after calls call.report.outcome) next base (done ++ appends.more) after call.after later shows'
-                    appends.kept (come_after aim (file.disk devices.file) (file.disk call.after.file) calls kept call.report.outcome
-                    account.rows after.rows come keeps far next counts),
-              ),
-        )
+    go aim calls kept base done account devices (Called call ∷ later) shows holds come = (
+      holds,
+      come,
+      λ is towards.
+          let (sent, after, _, shows', appends, keeps) = law base done account devices call shows holds towards.only_new is in
+          let stays : (id : List ℕ) → is_delivered account.rows id ≡ true → is_delivered after.rows id ≡ true =
+          λ id recorded. appends.kept.recorded id ∙ entered_more base done appends.more id (sym (holds.recorded id) ∙ recorded) in
+          let far = gets_far aim call calls (λ id. false) towards (λ id. refl) appends.wanted
+          (λ m entered. appends.kept.recorded m.uid ∙ entered)
+          (λ id recorded. entered_more base done appends.found id (sym (holds.recorded id) ∙ recorded)) stays come.far in (
+            sent,
+            after,
+            appends,
+            λ ended.
+                let (texts, more_are, count) = appends.fetched ended in
+                let fits = at_most_fits call.settings
+                (filter (may_fetch call.settings (λ id. false) (is_entered base (done ++ appends.found))) call.maildrop) call.maildrop
+                (no_more_than (may_fetch call.settings (λ id. false) (is_entered base (done ++ appends.found))) call.maildrop) in
+                let wanted = (appends.wanted ended).0 in
+                let few : length texts ≤ fitting call.settings (map message_size call.maildrop) = omega (arith, count, wanted, fits) in
+                no_farther aim call (is_delivered account.rows) (is_entered base (done ++ appends.found)) (is_delivered after.rows)
+                texts towards (distinct_is call.maildrop is.maildrop.distinct) few
+                (λ id recorded. entered_more base done appends.found id (sym (holds.recorded id) ∙ recorded))
+                (λ id recorded. entered_or_text (base.had id) (has_id (message_ids done) id) (has_id (message_ids appends.found) id)
+                (has_id (message_ids texts) id) _ _ (ids_both done appends.found id)
+                (ids_both done appends.more id ∙ ap (λ ms. has_id (message_ids done) id || has_id (message_ids ms) id) more_are
+                ∙ ap (λ b. has_id (message_ids done) id || b) (ids_both appends.found texts id))
+                (sym (appends.kept.recorded id) ∙ recorded)),
+            λ next counts. go aim (uncut_after calls call.report.outcome) next base (done ++ appends.more) after call.after later shows'
+                appends.kept (come_after aim (file.disk devices.file) (file.disk call.after.file) calls kept call.report.outcome
+                account.rows after.rows come keeps.recorded far next counts),
+          ),
+    )
     go aim calls kept base done account devices (Left left now ∷ later) shows holds come =
         (holds, come, λ then from first there since next again. go aim since next from first now left later then there again)
     go aim calls kept base done account devices (Lost left now ∷ later) shows holds come = (
@@ -354,3 +488,35 @@ get_mbox_far laws link disk file law = go
         λ from first there since next again. go aim since next from first now left later lost.shows there again,
       ),
     )
+
+-- ---- exactly as many as the limit says
+
+none_pass_of : {X : Type 0} (p : X → Bool) (xs : List X) → AllByRecursion (λ x. p x ≡ false) xs → length (filter p xs) ≡ 0
+none_pass_of p [] all = refl
+none_pass_of p (x ∷ xs) (isnt, all) = rw isnt (none_pass_of p xs all)
+
+pub record_the_limit : {W D F : Type 0} (link : WireGhosts W) (disk : DiskGhosts D) (file : FileGhosts F)
+    → CallsGetFar link disk file → CallsRecordTheLimit link disk file
+record_the_limit link disk file law mail aim state devices call shows kept account_is is towards clear ended some enough none =
+    let start : HasCome (file.disk devices.file) aim 0 0 state.account.rows = record {
+      far = none_far aim (is_delivered state.account.rows);
+      fewer = omega arith;
+      left = λ could rows intent may stands. none_far aim (is_delivered rows);
+    } in
+    let (_, _, then) = law mail aim 0 0 state devices (Called call ∷ []) shows kept start in
+    let (promised, most, on) = then account_is is towards clear in
+    let (_, come) = on 0 (inl refl) in
+    let far : IsFar aim 1 (is_delivered promised.after.rows) =
+    subst (λ (o : Outcome). IsFar aim (uncut_after 0 o) (is_delivered promised.after.rows)) ended come.far in
+    let few = none_pass_of (λ (m : Message). is_safe mail state m.uid) (aimed aim) none in
+    let limit : share aim ≡ aim.count_limit = rw (isnt_zero aim.count_limit some) refl in
+    let one : 1 * share aim ≡ share aim = grind arith in (
+      promised.after,
+      promised.shows,
+      ⊎_elim (λ at_least. omega (arith, at_least, one, most, few, limit)) (λ all. omega (arith, all, most, few, limit, enough)) far,
+      promised.promises.vanished,
+    )
+  where
+    isnt_zero : (n : ℕ) → n ≢ 0 → (n == 0) ≡ false
+    isnt_zero n some = ⊎_elim (λ (is : (n == 0) ≡ true). let none : n ≡ 0 = grind (arith, nat_tests, is) in absurd (some none))
+        (λ isnt. isnt) (cases_Bool (n == 0))

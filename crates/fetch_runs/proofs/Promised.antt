@@ -1,10 +1,10 @@
 -- One session of an account with a Maildir, from a state with the invariant, keeps its promises and leaves a state with the
 -- invariant, and so do others.
 use Rattle.std.{
-  proofs.Common.{◌≡◌, ◌⊎◌, inl, inr, ◌-◌, ℕ, List, [], ◌∷◌, ◌++◌, Bool, true, false, length, map, refl, sym, subst, ◌∙◌, ap, ap₂, arith},
-  proofs.Common.{not, cond, ◌&&◌, ◌||◌, ◌≤◌, take, drop},
+  proofs.Common.{◌≡◌, ◌⊎◌, inl, inr, ◌-◌, ◌==◌, ℕ, zero, suc, List, [], ◌∷◌, ◌++◌, Bool, true, false, length, map, refl, sym, subst},
+  proofs.Common.{◌∙◌, ap, ap₂, arith, not, cond, ◌&&◌, ◌||◌, ◌≤◌, take, drop},
   proofs.lemmas.Bool.{cases_Bool, both_ways, or_left, or_right, or_cases, and_parts, false_from_ne_true, not-true},
-  proofs.lemmas.List.{append-nil, map-append, take_all, Elements.filter-append},
+  proofs.lemmas.List.{append-nil, length-map, map-append, take_all, Elements.filter-append, Filters.length-filter_both},
   proofs.Math.Logic.{⊎_elim, ⊎_map},
   specs.{Prelude.{bytes_eq, ◌↔◌}, List.{AllByRecursion, count_by, filter}},
 }
@@ -22,14 +22,17 @@ use Rattle.fetch_runs.{
   specs.Sessions.is_retr,
   specs.Promises.{ComesFor},
   specs.Promises.{Mail, IsOf, IsMaildrop, State, is_safe, IsSafe, state_with, DeletesOneOf, ShowsNext, IsFront, Promises, Invariant, Call},
-  specs.Promises.IsBetween,
+  specs.{Order.AddsToFronts, Promises.IsBetween},
   proofs.Core.{added, added_begins, prefix_after, Fetch, all_wanted, distinct_wanted, texts_are, taken_is, wanted_ids, none_recorded},
-  proofs.Core.{fetches_wanted, length_is, IsLegal, wants, stored_files, message_file, has_listed, fetched_within, order},
+  proofs.Core.{asked, fetches_wanted, length_is, IsLegal, message_size, offered, wants, stored_files, message_file, has_listed},
+  proofs.Core.{fetched_within, order},
   proofs.Lists.{ids_both, ids_filtered, any_filter, bytes_eq_alike, is_some, Distinct, distinct_is, each_text, all_map, all_filter},
   proofs.Lists.{all_append, all_at, all_both, all_ids_at, all_passing, members, no_texts, has_texts, texts_filtered, taken_more, mapped_at},
   proofs.Lists.{all_mapped, all_take, delivered_all, delivered_marked, delivered_merged, marks_stay},
   proofs.Safety.served_session,
 }
+use Rattle.fetch_rules.specs.Wanted.{at_most, fitting}
+use Rattle.rc_file.specs.declared.settings.Settings.{Settings}
 use Rattle.session_parts.specs.declared.report.Outcome.TheVariants.{Ended}
 
 -- ---- held
@@ -105,6 +108,33 @@ more_done : (done held got taken held' named : Bool) → done ≡ (held || taken
     → (done || (got && not done)) ≡ (held' || (((held || taken) && not held') || (taken && not named)))
 more_done _ held got _ _ _ e f = grind (arith, e, f)
 
+came_or_held : (held taken got came : Bool) → came ≡ (got && not held) → got ≡ true → ((held || taken) || came) ≡ true
+came_or_held held taken got came is there = grind (arith, is, there)
+
+pub no_more_than : {X : Type 0} (p : X → Bool) (xs : List X) → length (filter p xs) ≤ length xs
+no_more_than p xs = let both = length-filter_both p (λ x. not (p x)) (λ x. refl) xs in omega (arith, both)
+
+pub take_within : {X : Type 0} (n : ℕ) (xs : List X) → (length (take n xs) ≤ n) × (length (take n xs) ≤ length xs)
+take_within zero xs = (omega arith, omega arith)
+take_within (suc n) [] = (omega arith, omega arith)
+take_within {X} (suc n) (x ∷ xs) =
+    let l = take_within n xs in
+    let most : length (x ∷ take n xs) ≤ suc n = omega (arith, l.0) in
+    let all : length (x ∷ take n xs) ≤ length (x ∷ xs) = omega (arith, l.1) in
+    (most, all)
+
+-- of fewer messages no more are taken than a limit says of all
+pub at_most_fits : (settings : Settings) (os all : List Message) → length os ≤ length all
+    → length (at_most settings message_size os) ≤ fitting settings (map message_size all)
+at_most_fits settings os all fewer = elim (cases_Bool (settings.max_count == 0)) [
+  | inl none ↦
+      let l = take_within (length (map message_size os)) os in
+      let most : length (take (length (map message_size os)) os) ≤ length (map message_size all) =
+      omega (arith, l.1, fewer, length-map all message_size) in
+      rw none most
+  | inr some ↦ rw some (take_within settings.max_count os).0
+]
+
 -- ---- what was sent
 
 -- what holds for each id for which a DELE was begun holds for the id of the message at the number of each DELE that was sent
@@ -129,6 +159,11 @@ sends_such P drop effect listed all sends = record {
 }
 
 -- ---- one session
+
+-- it kept its promises, the invariant, and the order of messages
+abbrev KeepsAll : {W S F : Type 0} → Mail → State → Call W S F → List ℕ → AccountMail → Type 0
+KeepsAll mail state call sent now = (promises : Promises mail state call sent now)
+    × Invariant mail (state_with mail state call.vanished now) × AddsToFronts mail state call promises.came now
 
 pub record IsSession {W S F : Type 0} (mail : Mail) (before : AccountMail) (call : Call W S F) (sent : List ℕ)
     (after : AccountMail) : Type 0 where
@@ -156,6 +191,9 @@ module _ {W S F : Type 0} (laws : Below) {mail : Mail} (account_is : IsAccountTe
 
   abbrev ws : List Message
   ws = wants o.settings odd rows o.maildrop
+
+  abbrev os : List Message
+  os = offered o.settings odd rows o.maildrop
 
   abbrev after : State
   after = state_with mail state o.vanished now
@@ -253,6 +291,28 @@ module _ {W S F : Type 0} (laws : Below) {mail : Mail} (account_is : IsAccountTe
         (ids_wanted (take s.recorded (wanted_at o.settings mail.account state.account e))) id (known_parts id ∙ or_left _ _ recorded))
   ]
 
+  -- no more came than the limit says
+  few : length came ≤ fitting o.settings (map message_size o.maildrop)
+  few =
+      let taken = take_within s.stored ws in
+      let fits = at_most_fits o.settings os o.maildrop (no_more_than (asked o.settings odd rows) o.maildrop) in
+      let unheld = no_more_than (λ (m : Message). not (held m.uid)) got in
+      omega (arith, taken.1, fits, unheld)
+
+  -- what is recorded afterwards was safe, or came
+  safe_or_came : (id : List ℕ) → has_id (message_ids got) id ≡ true
+      → (is_safe mail state id || has_id (message_ids came) id) ≡ true
+  safe_or_came id there = came_or_held _ _ _ _ (ids_filtered (λ x. not (held x)) got id) there
+
+  no_more : (id : List ℕ) → is_delivered now.rows id ≡ true
+      → (is_safe mail state id || has_id (message_ids came) id) ≡ true
+  no_more id d = elim s.rows [
+    | inl old ↦ or_left _ _ (kept.recorded id (rw old.0 at d)).1
+    | inr new ↦ ⊎_elim (λ was. or_left _ _ (known_safe id was).1)
+        (λ more. safe_or_came id (taken_more (λ (m : Message). m.uid) ws id (order s) (rw (wanted_ids fetch s.recorded) at more)))
+        (delivered_marked laws rows (ids_wanted (take s.recorded (wanted_at o.settings mail.account state.account e))) id (rw new at d))
+  ]
+
   -- after an uncut session what was known, and what came, is recorded
   all_recorded : e.ended ≡ true → o.report.outcome ≡ Ended → (id : List ℕ)
       → (is_delivered rows id || has_id (message_ids got) id) ≡ true → is_delivered now.rows id ≡ true
@@ -306,7 +366,7 @@ module _ {W S F : Type 0} (laws : Below) {mail : Mail} (account_is : IsAccountTe
 
   stored_kept : (e.ended ≡ true) ↔ (o.report.outcome ≡ Ended) → {sent : List ℕ} (sends : SendsOnly (IsBegun e.listing e.begun) sent)
       → (e.ended ≡ true → o.report.retrieved ≡ count_by is_retr sends.commands)
-      → AllByRecursion (λ id. has_id e.begun id ≡ true) o.vanished → Promises mail state o sent now × Invariant mail after
+      → AllByRecursion (λ id. has_id e.begun id ≡ true) o.vanished → KeepsAll mail state o sent now
   stored_kept ended sends retrieves vanished = (
     record {
       wanted = rw same_odd (λ uncut. let all = s.ended (ended.1 uncut) in
@@ -321,14 +381,16 @@ module _ {W S F : Type 0} (laws : Below) {mail : Mail} (account_is : IsAccountTe
       added = files_are ∙ ap (λ fs. without_flags (files state.account) ++ fs) (named_messages laws mail.account account_is came);
       new = all_both _ shown_came (all_filter _ (λ (m : Message). not (held m.uid)) got unrecorded_got)
           (λ m both unrecorded. record { shown = both.0; unheld = both.1; unrecorded = unrecorded });
+      few = few;
       recorded = stays_recorded;
-      in_order = front_after;
+      no_more = no_more;
     },
     record {
       holds = holds_after;
       recorded = recorded_after;
       gone = all_append _ _ _ (all_map _ vanished (λ id b. all_ids_at _ _ begun_safe b)) (all_map _ kept.gone (still_safe mail state now));
     },
+    front_after,
   )
     where
       shown_came : AllByRecursion (λ (m : Message). (has_id (message_ids o.maildrop) m.uid ≡ true) × (held m.uid ≡ false)) came
@@ -351,8 +413,7 @@ module _ {W S F : Type 0} (laws : Below) {mail : Mail} (account_is : IsAccountTe
 promised_unchanged : {W S F : Type 0} {mail : Mail} {state : State} (o : Call W S F) (now : AccountMail) (e : Effect)
     → Invariant mail state → Leaves state.account e now → (e.ended ≡ true) ↔ (o.report.outcome ≡ Ended)
     → {sent : List ℕ} → SendsOnly (IsBegun e.listing e.begun) sent
-    → AllByRecursion (λ id. has_id e.begun id ≡ true) o.vanished → Promises mail state o sent now
-    × Invariant mail (state_with mail state o.vanished now)
+    → AllByRecursion (λ id. has_id e.begun id ≡ true) o.vanished → KeepsAll mail state o sent now
 promised_unchanged {mail = mail} {state = state} o now e kept left ended sends vanished = (
   record {
     wanted = λ uncut. absurd (both_ways e.ended left.ended (ended.1 uncut));
@@ -362,11 +423,9 @@ promised_unchanged {mail = mail} {state = state} o now e kept left ended sends v
     came = [];
     added = ap without_flags left.same ∙ sym (append-nil (without_flags (files state.account)));
     new = tt;
+    few = omega arith;
     recorded = λ id recorded. rw left.rows recorded;
-    in_order = λ _ _ front _ _. (
-      record { done = front.done; rest = front.rest; prefix = front.prefix; is_done = λ id l. front.is_done id l ∙ unchanged id },
-      sym (append-nil front.done),
-    );
+    no_more = λ id d. or_left _ _ (kept.recorded id (rw left.rows at d)).1;
   },
   record {
     holds = λ id l. rw left.same (kept.holds id l);
@@ -374,6 +433,10 @@ promised_unchanged {mail = mail} {state = state} o now e kept left ended sends v
     gone = all_append _ _ _ (all_map _ vanished (λ _ b. absurd (both_ways false refl (rw left.begun at b))))
         (all_map _ kept.gone (still_safe mail state now));
   },
+  λ _ _ front _ _. (
+    record { done = front.done; rest = front.rest; prefix = front.prefix; is_done = λ id l. front.is_done id l ∙ unchanged id },
+    sym (append-nil front.done),
+  ),
 )
   where
     same : (id : List ℕ) → is_held mail.account now.maildir id ≡ is_held mail.account state.account.maildir id
@@ -396,8 +459,8 @@ others_leave_kept mail state after kept is = record {
 -- invariant
 pub sessions_keep_promises : Below
     → {W S F : Type 0} (mail : Mail) (state : State) (call : Call W S F) (sent : List ℕ) (after : AccountMail)
-    → IsAccountText mail.account → Invariant mail state → IsSession mail state.account call sent after → Promises mail state call sent after
-    × Invariant mail (state_with mail state call.vanished after)
+    → IsAccountText mail.account → Invariant mail state → IsSession mail state.account call sent after
+    → KeepsAll mail state call sent after
 sessions_keep_promises laws mail state call _ after account_is kept is =
     let step = served_session laws is.session is.served in
     ⊎_elim (λ left. promised_unchanged call after is.effect kept left is.session.ended is.session.sends step.1)

@@ -98,7 +98,7 @@ module _ {W D F : Type 0} (link : WireGhosts W) (disk : DiskGhosts D) (file : Fi
   keep_entries law settings first last (old ∷ olds) (report ∷ reports) (new ∷ news) (server ∷ servers) (call ∷ calls) base done account
       new_only are served shows holds =
       let only : call.settings.read_all ≡ false = ap (λ (c : Call W F F). c.settings.read_all) are.0 ∙ new_only in
-      let (_, after, _, _, appends, _, _, (after_shows, after_holds)) =
+      let (_, after, _, _, appends, _, (after_shows, after_holds)) =
       (law base done account first (Called call ∷ []) shows holds).2 only served.0 in
       let (more, left, left_shows, left_holds) = keep_entries law settings call.after last olds reports news servers calls base
       (done ++ appends.more) after new_only are.2 served.1 after_shows after_holds in (

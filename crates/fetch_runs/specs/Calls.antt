@@ -1,6 +1,6 @@
 -- Calls of `session`, and what others do between them, over the account's devices: what is promised of any list of
 -- these. Nobody has to know what a session does.
-use Rattle.std.specs.{Prelude.{◌≡◌, ℕ, true, List, [], ◌∷◌, ◌++◌, Option, false}, List.AllByRecursion}
+use Rattle.std.specs.Prelude.{◌≡◌, ℕ, true, List, [], ◌∷◌, ◌++◌, Option, false}
 use Rattle.pop3_wire.specs.{World.Message, declared.wire.Wire.Ghosts as WireGhosts}
 use Rattle.mail_terms.specs.UniqueId.{is_legal_id, has_id}
 use Rattle.rc_file.specs.declared.settings.Settings.{Settings}
@@ -9,7 +9,7 @@ use Rattle.mail_store.specs.{
   Devices.stored_in,
   Durable.MayLeave,
   Loss.LosesPower,
-  FileName.{is_held, stem_of},
+  FileName.stem_of,
   Maildir.{Maildir, WereTaken},
   declared.{file.flat_file.FlatFile.Ghosts as FileGhosts, maildir.disk.MaildirDisk.Ghosts as DiskGhosts},
 }
@@ -22,10 +22,9 @@ use Rattle.fetch_session.specs.Visits.{WasMade}
 use Rattle.fetch_runs.specs.{
   Accounts.{AccountMail, copies, files, message_ids},
   Sessions.{Served, MboxMail, entries_of},
-  Promises.{Call, ComesFor, Devices, IsBetween, IsMaildrop, Invariant, Mail, Promises, ShowsNext, State, is_safe},
-  Promises.{AppendsMail, Base, HoldsEntries, IsTextOf, state_with},
-  Losses.{TrustsMbox, IsCrashSafe, IsDurableFront, IsFileLeft, IsMboxSafe, KeepsDurable, KeepsFronts, KeepsRecorded},
-  Losses.TrustsRecord,
+  Promises.{AppendsMail, Base, Call, ComesFor, Devices, HoldsEntries, IsBetween, IsMaildrop, IsTextOf, Invariant, Mail},
+  Promises.{Promises, State, state_with},
+  Losses.{IsCrashSafe, IsFileLeft, IsMboxSafe, KeepsDurable, TrustsMbox, TrustsRecord},
 }
 
 -- ---- one call
@@ -62,7 +61,7 @@ abbrev pub with_left : Mail → State → Maildir → State
 with_left mail state left = state_with mail state [] (record state.account { maildir = left })
 
 -- readers were seen to take files away during the call, and none was besides; over what they left it was a session that
--- kept its promises. A loss of power can do no more harm after it than before, and take no more of what is recorded
+-- kept its promises. A loss of power can do no more harm after it than before
 pub record IsPromised {W D F : Type 0} (link : WireGhosts W) (disk : DiskGhosts D) (file : FileGhosts F) (mail : Mail)
     (state : State) (devices : Devices D F) (call : Call W D F) : Type 0 where
   pub left : Maildir
@@ -75,17 +74,6 @@ pub record IsPromised {W D F : Type 0} (link : WireGhosts W) (disk : DiskGhosts 
   pub promises : Promises mail (with_left mail state left) call sent after
   pub safe : TrustsRecord file devices.file call.after.file → IsCrashSafe (file.disk devices.file) mail state
       → IsCrashSafe (file.disk call.after.file) mail (state_with mail (with_left mail state left) call.vanished after)
-  pub keeps : TrustsRecord file devices.file call.after.file → KeepsRecorded (file.disk devices.file)
-      (file.disk call.after.file) state.account.rows after.rows call.report.outcome
-  pub in_order : (all : List Message) → AllByRecursion (λ (m : Message). is_legal_id m.uid ≡ true) all
-      → (front : IsDurableFront mail state all) → ShowsNext call.settings call.maildrop front.is.done front.is.rest
-      → after.maildir.odd ≡ []
-      → IsDurableFront mail (state_with mail (with_left mail state left) call.vanished after) all
-
--- of the account's messages no other is held than such as were held or taken away
-abbrev pub HoldsNoMore : Mail → State → AccountMail → Type 0
-HoldsNoMore mail state after = (id : List ℕ) → is_legal_id id ≡ true
-    → is_held mail.account after.maildir id ≡ true → is_safe mail state id ≡ true
 
 -- a loss of power left this account, whose record can be read, and new devices over it, of which all is durable
 pub record IsLeftByLoss {D F : Type 0} (disk : DiskGhosts D) (file : FileGhosts F) (from left : Devices D F)
@@ -116,13 +104,13 @@ ArePromised link disk file mail state devices (Left left account ∷ later) = Sh
     × Invariant mail state × (Shows disk file left account → IsBetween mail state.account account
     → let next = state_with mail state [] account in
     (KeepsDurable file mail.account state.account devices.file left.file account
-    → (IsCrashSafe (file.disk devices.file) mail state → IsCrashSafe (file.disk left.file) mail next)
-    × (HoldsNoMore mail state account → KeepsFronts mail state next)) × ArePromised link disk file mail next left later)
+    → IsCrashSafe (file.disk devices.file) mail state → IsCrashSafe (file.disk left.file) mail next)
+    × ArePromised link disk file mail next left later)
 ArePromised link disk file mail state devices (Lost left account ∷ later) = Shows disk file devices state.account
     × Invariant mail state × (IsCrashSafe (file.disk devices.file) mail state
     → IsLeftByLoss disk file devices left account
     → let next : State = record state { account = account } in IsCrashSafe (file.disk left.file) mail next
-    × KeepsFronts mail state next × ArePromised link disk file mail next left later)
+    × ArePromised link disk file mail next left later)
 
 -- the law: so it is of any list of calls, of what others leave and of losses of power, from a state with the invariant
 abbrev pub CallsKeepPromises : {W D F : Type 0} → WireGhosts W → DiskGhosts D → FileGhosts F → Type 0
@@ -176,8 +164,6 @@ AreMboxPromised link disk file base done account devices (Called call ∷ later)
     × (appends : AppendsMail base holds call sent after)
     × (TrustsMbox file devices call.after → IsMboxSafe (HoldsEntries base) file devices
     → IsMboxSafe (HoldsEntries base) file call.after)
-    × (TrustsMbox file devices call.after → KeepsRecorded (file.disk devices.file) (file.disk call.after.file)
-    account.rows after.rows call.report.outcome)
     × AreMboxPromised link disk file base (done ++ appends.more) after call.after later)
 AreMboxPromised link disk file base done account devices (Left left now ∷ later) = ShowsMbox file devices account
     × HoldsEntries base done account × (ShowsMbox file left now → (from : Base) (first : List Message)

@@ -23,7 +23,8 @@ use Rattle.fetch_runs.specs.{
   Sessions.MboxMail,
   Promises.{Call, ComesFor, Devices, IsBetween, IsFront, IsMaildrop, IsSafe, Invariant, Mail, State, is_safe},
   Promises.{AppendsMail, Base, HoldsEntries, IsMboxFront, IsTextOf, OneComes, base_from, is_entered, state_with},
-  Calls.{BeginsWithEntries, Called, Happening, HoldsNoMore, IsCall, IsLeftByLoss, IsMboxLeftByLoss, IsPromised, Left},
+  Order.HoldsNoMore,
+  Calls.{BeginsWithEntries, Called, Happening, IsCall, IsLeftByLoss, IsMboxLeftByLoss, IsPromised, Left},
   Calls.{Lost, Shows, ShowsMbox, with_left},
   Losses.{TrustsMbox, IsCrashSafe, IsDurableFront, IsMboxSafe},
 }

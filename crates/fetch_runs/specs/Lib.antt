@@ -4,9 +4,14 @@ pub mod Calls
 pub mod Conversations
 pub mod Headline
 pub mod Losses
+pub mod Order
+pub mod Outcomes
+pub mod Passwords
 pub mod Progress
 pub mod Promises
 pub mod Sessions
+pub mod Sharing
 pub mod Steps
 pub mod VisitPromises
 pub mod Visits
+pub mod Witnesses

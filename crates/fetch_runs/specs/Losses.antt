@@ -80,7 +80,8 @@ pub record IsFileLeft {F : Type 0} (file : FileGhosts F) (from left : F) : Type 
   pub is : MayLeave (file.disk from) (stored_in file left).content
   pub durable : (bytes : Option (List ℕ)) → MayLeave (file.disk left) bytes → bytes ≡ (stored_in file left).content
 
--- what others leave is as durable as it was, and of the record may be left what it holds, or could be left before
+-- what others leave of files is durable, and durable names stay so; of the record may be left what it holds, or what
+-- could be left before
 pub record KeepsDurable {F : Type 0} (file : FileGhosts F) (account : List ℕ) (before : AccountMail) (from f : F)
     (after : AccountMail) : Type 0 where
   pub named : (id : List ℕ) → is_legal_id id ≡ true → has_named account before.maildir id ≡ true

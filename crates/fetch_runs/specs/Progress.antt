@@ -23,7 +23,7 @@ use Rattle.fetch_runs.specs.{
   Accounts.{AccountMail, selected, without},
   Sessions.MboxMail,
   Promises.{AppendsMail, Base, Call, ComesFor, Devices, HoldsEntries, IsBetween, IsTextOf, Invariant, Mail, State},
-  Promises.state_with,
+  Promises.{is_entered, is_safe, state_with},
   Calls.{Called, Happening, IsCall, IsLeftByLoss, IsMboxLeftByLoss, IsPromised, Left, Lost, Shows, ShowsMbox},
   Calls.with_left,
   Losses.{IsCrashSafe, KeepsDurable, LeavesRows, ShowsAll, TrustsMbox, TrustsRecord},
@@ -73,16 +73,17 @@ pub record HasCome (disk : Disk) (aim : Aim) (calls kept : ℕ) (rows : List Row
   pub left : LeavesRows disk (λ rows. IsFar aim kept (is_delivered rows))
 
 -- how many calls count in a loss of power after this one: none; or if no flush was refused as many as before it, or all
--- until now, if it was uncut and changed the record, or whatever could be left of the record before showed all of it
+-- until now, if it was uncut and changed the record's rows, or whatever could be left of the record before showed all
 abbrev pub CountsOn : (trusts : Type 0) → Disk → (calls kept : ℕ) → Outcome → (rows rows' : List Row) → ℕ → Type 0
 CountsOn trusts disk calls kept outcome rows rows' next = (next ≡ 0) ⊎ (trusts × ((next ≡ kept)
     ⊎ ((outcome ≡ Ended) × ((rows' ≢ rows) ⊎ LeavesRows disk (ShowsAll rows)) × (next ≡ calls + 1))))
 
 -- ---- with a Maildir
 
--- so it is; if the next of these happens, a call that meets no odd name keeps its promises, and so it is after it, and
--- after others that leave in the record what was in it. A loss of power leaves what counts in it, and it goes on from
--- there, or from what the record then shows
+-- so it is; if the next of these happens, a call that meets no odd name keeps its promises, and records at most as many
+-- more as it may fetch than were held or taken away; and so it is after it, and after others that leave in the record
+-- what was in it. A loss of power leaves what counts in it, and it goes on from there, or from what the record then
+-- shows
 abbrev pub GetFar : {W D F : Type 0} → WireGhosts W → DiskGhosts D → FileGhosts F → Mail → Aim → (calls kept : ℕ)
     → State → Devices D F → List (Happening (Call W D F) (Devices D F) AccountMail) → Type 0
 GetFar link disk file mail aim calls kept state devices [] =
@@ -91,7 +92,8 @@ GetFar link disk file mail aim calls kept state devices (Called call ∷ later) 
     × HasCome (file.disk devices.file) aim calls kept state.account.rows × (digits_of call.settings ≡ mail.account
     → IsCall link disk file InMaildir disk.sound (ComesFor mail) devices call
     → IsTowards aim (is_delivered state.account.rows) call → (disk.maildir call.after.store).odd ≡ []
-    → (is : IsPromised link disk file mail state devices call) × ((next : ℕ)
+    → (is : IsPromised link disk file mail state devices call)
+    × (count_done aim (is_delivered is.after.rows) ≤ count_done aim (is_safe mail state) + share aim) × ((next : ℕ)
     → CountsOn (TrustsRecord file devices.file call.after.file) (file.disk devices.file) calls kept call.report.outcome
     state.account.rows is.after.rows next → GetFar link disk file mail aim (uncut_after calls call.report.outcome) next
     (state_with mail (with_left mail state is.left) call.vanished is.after) call.after later))
@@ -115,10 +117,24 @@ CallsGetFar {W} {D} {F} link disk file = (mail : Mail) (aim : Aim) (calls kept :
     → HasCome (file.disk devices.file) aim calls kept state.account.rows
     → GetFar link disk file mail aim calls kept state devices list
 
+-- a law: an uncut call with a limit on their number, over at least as many messages within the limit on sizes, none of
+-- which is held or was taken away, records exactly as many of these
+abbrev pub CallsRecordTheLimit : {W D F : Type 0} → WireGhosts W → DiskGhosts D → FileGhosts F → Type 0
+CallsRecordTheLimit {W} {D} {F} link disk file = (mail : Mail) (aim : Aim) (state : State) (devices : Devices D F)
+    (call : Call W D F) → Shows disk file devices state.account → Invariant mail state
+    → digits_of call.settings ≡ mail.account → IsCall link disk file InMaildir disk.sound (ComesFor mail) devices call
+    → IsTowards aim (is_delivered state.account.rows) call → (disk.maildir call.after.store).odd ≡ []
+    → call.report.outcome ≡ Ended → aim.count_limit ≢ 0 → aim.count_limit ≤ length (aimed aim)
+    → AllByRecursion (λ (m : Message). is_safe mail state m.uid ≡ false) (aimed aim)
+    → (after : AccountMail) × Shows disk file call.after after
+    × (count_done aim (is_delivered after.rows) ≡ aim.count_limit)
+    × AllByRecursion (λ id. is_delivered after.rows id ≡ true) call.vanished
+
 -- ---- with an mboxrd file
 
--- the same of entries: what is recorded has one, or was recorded before the first call. What others or a loss of power
--- left goes on from what has come there
+-- the same of entries: an uncut call records at most as many as it may fetch beside those that it knew or found whole;
+-- what is recorded has one, or was recorded before the first call. What others or a loss of power left goes on from
+-- what has come there
 abbrev pub GetMboxFar : {W D F : Type 0} → WireGhosts W → DiskGhosts D → FileGhosts F → Aim → (calls kept : ℕ) → Base
     → List Message → MboxMail → Devices F F → List (Happening (Call W F F) (Devices F F) MboxMail) → Type 0
 GetMboxFar link disk file aim calls kept base done account devices [] =
@@ -127,7 +143,9 @@ GetMboxFar link disk file aim calls kept base done account devices (Called call 
     (holds : HoldsEntries base done account) × HasCome (file.disk devices.file) aim calls kept account.rows
     × (IsCall link disk file InMbox file.sound (IsTextOf base) devices call
     → IsTowards aim (is_delivered account.rows) call
-    → (sent : List ℕ) × (after : MboxMail) × (appends : AppendsMail base holds call sent after) × ((next : ℕ)
+    → (sent : List ℕ) × (after : MboxMail) × (appends : AppendsMail base holds call sent after)
+    × (call.report.outcome ≡ Ended → count_done aim (is_delivered after.rows)
+    ≤ count_done aim (is_entered base (done ++ appends.found)) + share aim) × ((next : ℕ)
     → CountsOn (TrustsMbox file devices call.after) (file.disk devices.file) calls kept call.report.outcome account.rows
     after.rows next
     → GetMboxFar link disk file aim (uncut_after calls call.report.outcome) next base (done ++ appends.more) after

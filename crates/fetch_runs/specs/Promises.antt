@@ -1,8 +1,8 @@
 -- What a call of `session` promises, in what the account's files mean, and what holds before and after it. A server may
 -- show any messages, in any order, and each call may have other limits: what stays is which texts come for a unique-id.
 use Rattle.std.{
-  specs.Prelude.{◌≡◌, ◌⊎◌, ◌<◌, ◌-◌, ◌&&◌, ◌||◌, ℕ, Bool, true, false, not, List, [], ◌∷◌, ◌++◌, map, length, Some},
-  specs.Prelude.{slice_get, None},
+  specs.Prelude.{◌≡◌, ◌⊎◌, ◌≤◌, ◌<◌, ◌-◌, ◌&&◌, ◌||◌, ℕ, Bool, true, false, not, List, [], ◌∷◌, ◌++◌, map, length},
+  specs.Prelude.{slice_get, None, Some},
   specs.List.{AllByRecursion, count_by, filter, list_any},
   proofs.Common.inr,
 }
@@ -10,7 +10,7 @@ use Rattle.pop3_wire.specs.{World.Message, declared.command.Command.{Command, Th
 use Rattle.mail_terms.specs.{Distinct.AreDistinct, Text.IsWhole, UniqueId.{is_legal_id, has_id}}
 use Rattle.rc_file.specs.declared.settings.Settings.{Settings}
 use Rattle.fetch_record.specs.Record.{is_delivered}
-use Rattle.fetch_rules.specs.Wanted.{allows_size, at_most}
+use Rattle.fetch_rules.specs.Wanted.{allows_size, at_most, fitting}
 use Rattle.mail_store.specs.{
   FileName.{is_held, name_of, names_id, stem_of},
   Maildir.file,
@@ -133,7 +133,8 @@ pub record IsNew {W S F : Type 0} (mail : Mail) (before : AccountMail) (call : C
   pub unrecorded : call.settings.read_all ≡ false → is_delivered before.rows m.uid ≡ false
 
 -- what a call promises that sent this and left this account: DELE, even in part, is for what is held or was taken away;
--- no file is lost, only those of new messages come; what was recorded, QUIT removed or an uncut one wants is recorded
+-- no file is lost, only those of new messages come, no more than the limit on their number says; what was recorded,
+-- QUIT removed or an uncut one wants is recorded, and of others none but what came, or was held or taken away
 pub record Promises {W S F : Type 0} (mail : Mail) (state : State) (call : Call W S F) (sent : List ℕ)
     (after : AccountMail) : Type 0 where
   pub wanted : FetchesWanted call (λ id. list_any (names_id mail.account id) after.maildir.odd)
@@ -146,11 +147,10 @@ pub record Promises {W S F : Type 0} (mail : Mail) (state : State) (call : Call 
   pub added : without_flags after.maildir.files ≡ without_flags state.account.maildir.files
       ++ map (λ (m : Message). file (name_of mail.account m.uid (length m.text)) m.text) came
   pub new : AllByRecursion (IsNew mail state.account call) came
+  pub few : length came ≤ fitting call.settings (map (λ (m : Message). m.size) call.maildrop)
   pub recorded : (id : List ℕ) → is_delivered state.account.rows id ≡ true → is_delivered after.rows id ≡ true
-  pub in_order : (all : List Message) → AllByRecursion (λ (m : Message). is_legal_id m.uid ≡ true) all
-      → (front : IsFront mail state all) → ShowsNext call.settings call.maildrop front.done front.rest
-      → after.maildir.odd ≡ [] → (later : IsFront mail (state_with mail state call.vanished after) all)
-      × (later.done ≡ front.done ++ filter (λ (m : Message). not (has_id (message_ids front.done) m.uid)) came)
+  pub no_more : (id : List ℕ) → is_delivered after.rows id ≡ true
+      → (is_safe mail state id || has_id (message_ids came) id) ≡ true
 
 -- each message is held once; what is recorded, or is gone from the server, is held or was taken away
 pub record Invariant (mail : Mail) (state : State) : Type 0 where
@@ -227,8 +227,6 @@ pub record AppendsMail {W S F : Type 0} (base : Base) {done : List Message} {bef
   pub vanished : AllByRecursion (λ id. is_entered base (done ++ more) id ≡ true) call.vanished
   pub part : (o : IsOpenFor base (base.start ++ entries_of (done ++ more)) after) → kept.stands ≡ inr o
       → (after.file ≡ before.file) ⊎ ((behind : List ℕ) × (entry_of o.next.text ≡ o.part ++ behind))
-  pub in_order : (all : List Message) → (front : IsMboxFront base holds all)
-      → ShowsNext call.settings call.maildrop (front.first ++ done) front.rest → IsMboxFront base kept all
 
 -- a law: it may begin with any account that has no open intent, also after others wrote its file or its record
 abbrev pub MboxStarts : Type 0

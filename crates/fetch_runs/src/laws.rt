@@ -6,11 +6,16 @@ ghost use Rattle.fetch_runs.specs.{
   Conversations.{MboxSessionsFollowPlans, SessionsAreConversations},
   Headline.{EmptyFrontsBegin, EntriesMeanTexts, Headline, MboxHeadline, MboxFrontsBegin, NoneTaken, TakenStaysAway},
   Losses.{DurableAccountsAreSafe, DurableFrontsBegin},
-  Progress.{CallsGetFar, MboxCallsGetFar},
+  Order.{CallsKeepOrder, MboxCallsKeepOrder},
+  Progress.{CallsGetFar, CallsRecordTheLimit, MboxCallsGetFar},
+  Outcomes.{FirstsAreEntries, FirstsArePrefixes, LossesKeepEntries, LossesKeepTheRecorded, LossesTakeOne},
+  Passwords.PasswordsAreInPass,
   Promises.MboxStarts,
+  Sharing.TurnsKeepPromises,
   Steps.{MboxSessionsLoseNothing, SessionsLoseNothing},
   VisitPromises.VisitsKeepPromises,
   Visits.{VisitsAreCalls, VisitsKeepStates},
+  Witnesses.PremisesHold,
 };
 
 use fetch_rules::{
@@ -129,6 +134,17 @@ pub fn calls_keep_promises<W: Wire, D: MaildirDisk, F: FlatFile>()
     ensures { CallsKeepPromises W.Wire D.MaildirDisk F.FlatFile }
 {
     laws_below();
+    calls_keep_order::<W, D, F>();
+}
+
+/// Order, for a Maildir: if exactly the first of some messages were held or taken away before a call, others or a loss
+/// of power, and all of them but perhaps the last were durable, so it is afterwards, if the server shows what is next
+/// and the call met no odd name, or others hold no more and leave it as durable. With each call's promises comes what
+/// it keeps of the record.
+pub fn calls_keep_order<W: Wire, D: MaildirDisk, F: FlatFile>()
+    ensures { CallsKeepOrder W.Wire D.MaildirDisk F.FlatFile }
+{
+    laws_below();
 }
 
 /// The visits of `run_sessions` are calls, as the statement speaks of them, whatever is said of their servers: so
@@ -175,6 +191,7 @@ pub fn none_taken()
 pub fn headline<W: Wire, D: MaildirDisk, F: FlatFile>()
     ensures { Headline W.Wire D.MaildirDisk F.FlatFile }
 {
+    calls_keep_order::<W, D, F>();
     calls_keep_promises::<W, D, F>();
 }
 
@@ -184,12 +201,13 @@ pub fn headline<W: Wire, D: MaildirDisk, F: FlatFile>()
 /// fetch. Each of these is held or was taken away.
 ///
 /// It is so whatever readers do, and if others keep the record. If no flush of the record's file was refused, calls
-/// count in a loss of power too: all until the last uncut one that changed the record, or before which whatever could
-/// be left of it showed all of it.
+/// count in a loss of power too: all until the last uncut one that changed the record's rows, or before which whatever
+/// could be left of it showed all of it.
 pub fn calls_get_far<W: Wire, D: MaildirDisk, F: FlatFile>()
     ensures { CallsGetFar W.Wire D.MaildirDisk F.FlatFile }
 {
     laws_below();
+    calls_keep_order::<W, D, F>();
     calls_keep_promises::<W, D, F>();
 }
 
@@ -222,12 +240,22 @@ pub fn empty_accounts_hold()
 {}
 
 /// The statement, for an mboxrd file, where a unique-id names one text and calls read only what is new: the file holds
-/// what it held before the first call, then the entries of messages, each once, in the order in which they were
-/// fetched, and at most a prefix of one more, or what a loss of power left of it, whose intent is then open; after an
-/// uncut call there is none, and only what its own limits exclude is left out; and DELE was sent only for messages
-/// whose entry is whole, or that were recorded before the first call or before others last wrote the file.
+/// what it held before the first call, then the entries of messages, each once, those of earlier calls first, and at
+/// most a prefix of one more, or what a loss of power left of it, whose intent is then open; after an uncut call there
+/// is none, and only what its own limits exclude is left out; and DELE was sent only for messages whose entry is whole,
+/// or that were recorded before the first call or before others last wrote the file.
 pub fn mbox_calls_keep_promises<W: Wire, D: MaildirDisk, F: FlatFile>()
     ensures { MboxCallsKeepPromises W.Wire D.MaildirDisk F.FlatFile }
+{
+    laws_below();
+    sessions_by_store::<W, D, F>();
+}
+
+/// Order, with an mboxrd file: if exactly the first of some messages were recorded before the first call or have
+/// entries, so it is after a call whose server shows what is next. With what a call appends comes what it keeps of the
+/// record.
+pub fn mbox_calls_keep_order<W: Wire, D: MaildirDisk, F: FlatFile>()
+    ensures { MboxCallsKeepOrder W.Wire D.MaildirDisk F.FlatFile }
 {
     laws_below();
     sessions_by_store::<W, D, F>();
@@ -239,7 +267,7 @@ pub fn mbox_calls_get_far<W: Wire, D: MaildirDisk, F: FlatFile>()
     ensures { MboxCallsGetFar W.Wire D.MaildirDisk F.FlatFile }
 {
     laws_below();
-    mbox_calls_keep_promises::<W, D, F>();
+    mbox_calls_keep_order::<W, D, F>();
 }
 
 /// With an mboxrd file: what a loss of power leaves holds entries if nothing else may be left of both files than
@@ -294,4 +322,78 @@ pub fn visits_keep_promises<W: Wire, D: MaildirDisk, F: FlatFile>()
     mbox_calls_keep_promises::<W, D, F>();
     mbox_headline::<W, D, F>();
     mbox_calls_get_far::<W, D, F>();
+}
+
+/// The premises on mail, on what calls show and on what others leave hold of plain data: of any messages with legal and
+/// distinct ids, of their maildrops without some that are done, and of their files, if these are durable.
+pub fn premises_hold<W: Wire, D: MaildirDisk, F: FlatFile>()
+    ensures { PremisesHold W.Wire D.MaildirDisk F.FlatFile }
+{
+    laws_below();
+}
+
+/// Progress from both sides: an uncut call with a limit on the number of messages, over at least as many new ones
+/// within the limit on sizes, records exactly as many.
+pub fn calls_record_the_limit<W: Wire, D: MaildirDisk, F: FlatFile>()
+    ensures { CallsRecordTheLimit W.Wire D.MaildirDisk F.FlatFile }
+{
+    calls_get_far::<W, D, F>();
+}
+
+/// The calls of any fetchers that share an account are one list of calls, if each makes its devices once no other is at
+/// work, and these show what the last call left.
+pub fn turns_keep_promises<W: Wire, D: MaildirDisk, F: FlatFile>()
+    ensures { TurnsKeepPromises W.Wire D.MaildirDisk F.FlatFile }
+{
+    calls_keep_promises::<W, D, F>();
+}
+
+/// Of the commands of a plan PASS alone depends on the password, and the plan doesn't; and what is said of a session
+/// with a Maildir holds of it with any other password too.
+pub fn passwords_are_in_pass()
+    ensures { PasswordsAreInPass }
+{}
+
+/// After a call during which no reader is seen to take a file away, and a loss of power right after it, and another,
+/// what the record that is left shows as delivered is held.
+pub fn losses_keep_the_recorded<W: Wire, D: MaildirDisk, F: FlatFile>()
+    ensures { LossesKeepTheRecorded W.Wire D.MaildirDisk F.FlatFile }
+{
+    calls_keep_promises::<W, D, F>();
+}
+
+/// What the headline comes to, for a first call that is uncut: the Maildir has exactly the files of the first messages
+/// within the limit on sizes, as many as the limit on their number says.
+pub fn firsts_are_prefixes<W: Wire, D: MaildirDisk, F: FlatFile>()
+    ensures { FirstsArePrefixes W.Wire D.MaildirDisk F.FlatFile }
+{
+    laws_below();
+    headline::<W, D, F>();
+}
+
+/// After a loss of power that follows such a call, all of these messages but perhaps one are still held.
+pub fn losses_take_one<W: Wire, D: MaildirDisk, F: FlatFile>()
+    ensures { LossesTakeOne W.Wire D.MaildirDisk F.FlatFile }
+{
+    laws_below();
+    headline::<W, D, F>();
+}
+
+/// What the headline for an mboxrd file comes to, for a first call: the file has what it had, then entries, and perhaps
+/// a front of one more; and if the call is uncut and has no limit on the number of messages, exactly the entries of
+/// those within the limit on sizes.
+pub fn firsts_are_entries<W: Wire, D: MaildirDisk, F: FlatFile>()
+    ensures { FirstsAreEntries W.Wire D.MaildirDisk F.FlatFile }
+{
+    laws_below();
+    mbox_headline::<W, D, F>();
+}
+
+/// With an mboxrd file: after a call and a loss of power right after it, each message that was recorded, that is gone
+/// from the server, or that the record that is left shows as delivered has its entry; and so have those that are
+/// recorded after another loss.
+pub fn losses_keep_entries<W: Wire, D: MaildirDisk, F: FlatFile>()
+    ensures { LossesKeepEntries W.Wire D.MaildirDisk F.FlatFile }
+{
+    mbox_calls_keep_promises::<W, D, F>();
 }

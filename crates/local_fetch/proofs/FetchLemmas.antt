@@ -12,11 +12,13 @@ use Rattle.fetch_runs.specs.{
   Promises.{ComesFor, Devices, IsTextOf, state_with, MboxStarts},
   Sessions.MboxMail,
   Calls.{Called, CallsKeepPromises, EmptyAccountsHold, IsCall, Left, Lost, with_left, MboxCallsKeepPromises},
+  Order.{CallsKeepOrder, MboxCallsKeepOrder},
+  Outcomes.no_entries,
 }
 use Rattle.local_fetch.{
   specs.Local.loop_to,
   specs.Fetches.{Fetch, FetchesFromNothing, FetchesKeepPromises, IsFetch, MboxFetchesFromNothing, MboxFetchesKeepPromises, ServerRemoves},
-  specs.Fetches.{as_call, no_entries, nothing_yet},
+  specs.Fetches.{as_call, nothing_yet},
   proofs.LocalLemmas.served_by,
 }
 
@@ -41,56 +43,64 @@ module _ {M D F : Type 0} (link : WireGhosts (Loop M)) (disk : DiskGhosts D) (fi
         },
       )
 
-  pub fetches_keep : CallsKeepPromises link disk file → FetchesKeepPromises link disk file drop
-  fetches_keep law mail state devices [] shows kept = (shows, kept)
-  fetches_keep law mail state devices (Called fetch ∷ later) shows kept = (
+  pub fetches_keep : CallsKeepOrder link disk file → CallsKeepPromises link disk file
+      → FetchesKeepPromises link disk file drop
+  fetches_keep order law mail state devices [] shows kept = (shows, kept)
+  fetches_keep order law mail state devices (Called fetch ∷ later) shows kept = (
     shows,
     kept,
     λ account_is is.
         let (vanished, left, call) = is_call InMaildir (ComesFor mail) devices fetch is in
-        let (shown, held, then) = law mail state devices (Called (as_call drop fetch vanished) ∷ []) shows kept in
-        let (promised, (shows', kept')) = then account_is call in
+        let (promised, keeps, kept') = order.call mail state devices (as_call drop fetch vanished) shows kept account_is call in
         let after = state_with mail (with_left mail state promised.left) vanished promised.after in
-        (vanished, left, promised, fetches_keep law mail after fetch.after later shows' kept'),
+        (vanished, left, promised, keeps, fetches_keep order law mail after fetch.after later promised.shows kept'),
   )
-  fetches_keep law mail state devices (Left left account ∷ later) shows kept =
+  fetches_keep order law mail state devices (Left left account ∷ later) shows kept =
       let (_, _, others) = law mail state devices (Left left account ∷ []) shows kept in (
         shows,
         kept,
         λ then between.
-            let (safe, (shows', kept')) = others then between in
-            (safe, fetches_keep law mail (state_with mail state [] account) left later shows' kept'),
+            let (safe, (shows', kept')) = others then between in (
+              λ keeps. (safe keeps, order.others mail state devices left account keeps),
+              fetches_keep order law mail (state_with mail state [] account) left later shows' kept',
+            ),
       )
-  fetches_keep law mail state devices (Lost left account ∷ later) shows kept =
+  fetches_keep order law mail state devices (Lost left account ∷ later) shows kept =
       let (_, _, loss) = law mail state devices (Lost left account ∷ []) shows kept in (
         shows,
         kept,
         λ safe lost.
-            let (safe', fronts, (shows', kept')) = loss safe lost in
-            (safe', fronts, fetches_keep law mail (record state { account = account }) left later shows' kept'),
+            let (safe', (shows', kept')) = loss safe lost in (
+              safe',
+              order.loss mail state devices left account shows lost,
+              fetches_keep order law mail (record state { account = account }) left later shows' kept',
+            ),
       )
 
-  pub mbox_fetches_keep : MboxCallsKeepPromises link disk file → MboxFetchesKeepPromises link disk file drop
-  mbox_fetches_keep law base done account devices [] shows holds = (shows, holds)
-  mbox_fetches_keep law base done account devices (Called fetch ∷ later) shows holds = (
+  pub mbox_fetches_keep : MboxCallsKeepOrder link disk file → MboxCallsKeepPromises link disk file
+      → MboxFetchesKeepPromises link disk file drop
+  mbox_fetches_keep order law base done account devices [] shows holds = (shows, holds)
+  mbox_fetches_keep order law base done account devices (Called fetch ∷ later) shows holds = (
     shows,
     holds,
     λ only_new is.
         let (vanished, left, call) = is_call InMbox (IsTextOf base) devices fetch is in
-        let (now, held, then) = law base done account devices (Called (as_call drop fetch vanished) ∷ []) shows holds in
-        let (sent, after, sent_is, shown, appends, safe, keeps, (shows', holds')) = then only_new call in
-        let on = mbox_fetches_keep law base (done ++ appends.more) after fetch.after later shows' holds' in
-        (vanished, left, held, sent, after, sent_is, shown, appends, safe, keeps, on),
+        let (sent, after, sent_is, shown, appends, keeps) =
+        order base done account devices (as_call drop fetch vanished) shows holds only_new call in
+        let (_, _, then) = law base done account devices (Called (as_call drop fetch vanished) ∷ []) shows holds in
+        let (_, _, _, _, _, safe, _) = then only_new call in
+        let on = mbox_fetches_keep order law base (done ++ appends.more) after fetch.after later shown appends.kept in
+        (vanished, left, holds, sent, after, sent_is, shown, appends, safe, keeps, on),
   )
-  mbox_fetches_keep law base done account devices (Left left now ∷ later) shows holds =
-      (shows, holds, λ then from first there. mbox_fetches_keep law from first now left later then there)
-  mbox_fetches_keep law base done account devices (Lost left now ∷ later) shows holds =
+  mbox_fetches_keep order law base done account devices (Left left now ∷ later) shows holds =
+      (shows, holds, λ then from first there. mbox_fetches_keep order law from first now left later then there)
+  mbox_fetches_keep order law base done account devices (Lost left now ∷ later) shows holds =
       let (_, _, loss) = law base done account devices (Lost left now ∷ []) shows holds in (
         shows,
         holds,
         λ safe lost.
             let (keeps, safe', (first, (shows', holds'))) = loss safe lost in
-            (keeps, safe', (first, mbox_fetches_keep law base first now left later shows' holds')),
+            (keeps, safe', (first, mbox_fetches_keep order law base first now left later shows' holds')),
       )
 
 -- ---- from nothing on

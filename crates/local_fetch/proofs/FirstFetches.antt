@@ -23,7 +23,7 @@ use Rattle.local_fetch.{
 }
 
 -- of no files none is left
-none_left : (gone left : List File) → IsWithout [] gone left → left ≡ []
+pub none_left : (gone left : List File) → IsWithout [] gone left → left ≡ []
 none_left [] [] reached = refl
 none_left [] (f ∷ left) never = absurd never
 none_left (g ∷ gone) left ([], back, never, rest) = absurd never
@@ -71,7 +71,7 @@ pub keep_mail : {M D F : Type 0} (link : WireGhosts (Loop M)) (disk : DiskGhosts
 keep_mail link disk file drop empty law text devices fetch no_file no_record is =
     let mail : Mail = record { account = digits_of fetch.settings; is_text = λ id came. bytes_eq came (text id) } in
     let (shows, kept, then) = from_nothing link disk file drop empty law mail devices (Called fetch ∷ []) no_file no_record in
-    let (vanished, removed, promised, (shows', kept')) = then refl (record {
+    let (vanished, removed, promised, _, (shows', kept')) = then refl (record {
       fetched = is.fetched;
       messages = is.messages;
       maildrop = record {

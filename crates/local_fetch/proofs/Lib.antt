@@ -10,3 +10,4 @@ mod MoveLemmas
 mod OneMessage
 mod ReplyLemmas
 mod RunLemmas
+mod Twice

@@ -174,7 +174,7 @@ mail_is_moved {M} {D} {F} link disk file drop history leads laws conversations l
       somewhere,
       λ account_is same is.
           let (_, _, then) = law mail state devices (Called fetch ∷ []) shows kept in
-          let (vanished, removed, promised, (shows', kept')) = then account_is is in
+          let (vanished, removed, promised, _, (shows', kept')) = then account_is is in
           let next = state_with mail (with_left mail state promised.left) vanished promised.after in
           let without : AreWithout there vanished (shown_by drop fetch.wire.machine) =
           subst (λ ms. AreWithout ms vanished (shown_by drop fetch.wire.machine)) same removed in (

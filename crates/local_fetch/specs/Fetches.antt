@@ -35,9 +35,11 @@ use Rattle.fetch_runs.specs.{
   Promises.{Call, ComesFor, Devices, IsBetween, IsMaildrop, IsTextOf, Invariant, Mail, State, state_with, AppendsMail},
   Promises.{Base, FetchesWanted, HoldsEntries},
   Sessions.{MboxMail, entries_of, is_retr},
-  Calls.{Called, Happening, HoldsNoMore, IsLeftByLoss, IsMboxLeftByLoss, IsPromised, KeepsEntries, Left, Lost, Shows},
+  Order.{HoldsNoMore, KeepsMboxOrder, KeepsOrder},
+  Outcomes.no_entries,
+  Calls.{Called, Happening, IsLeftByLoss, IsMboxLeftByLoss, IsPromised, KeepsEntries, Left, Lost, Shows},
   Calls.{ShowsMbox, account_over, with_left},
-  Losses.{IsCrashSafe, IsMboxSafe, KeepsDurable, KeepsFronts, KeepsRecorded, TrustsMbox},
+  Losses.{IsCrashSafe, IsMboxSafe, KeepsDurable, KeepsFronts, TrustsMbox},
 }
 use Rattle.local_fetch.specs.Local.{AreWithout, WasFetchedLocally, loop_to}
 
@@ -98,7 +100,7 @@ KeepPromises link disk file drop mail state devices (Called fetch ∷ later) = S
     × Invariant mail state × (digits_of fetch.settings ≡ mail.account
     → IsFetch link disk file drop InMaildir (ComesFor mail) devices fetch
     → (vanished : List (List ℕ)) × ServerRemoves drop fetch vanished
-    × (is : IsPromised link disk file mail state devices (as_call drop fetch vanished))
+    × (is : IsPromised link disk file mail state devices (as_call drop fetch vanished)) × KeepsOrder file is
     × KeepPromises link disk file drop mail (state_with mail (with_left mail state is.left) vanished is.after)
     fetch.after later)
 KeepPromises link disk file drop mail state devices (Left left account ∷ later) = Shows disk file devices state.account
@@ -177,8 +179,7 @@ KeepMboxPromises link disk file drop base done account devices (Called fetch ∷
     × ShowsMbox file fetch.after after × (appends : AppendsMail base holds (as_call drop fetch vanished) sent after)
     × (TrustsMbox file devices fetch.after → IsMboxSafe (HoldsEntries base) file devices
     → IsMboxSafe (HoldsEntries base) file fetch.after)
-    × (TrustsMbox file devices fetch.after → KeepsRecorded (file.disk devices.file) (file.disk fetch.after.file)
-    account.rows after.rows fetch.report.outcome)
+    × KeepsMboxOrder file devices appends
     × KeepMboxPromises link disk file drop base (done ++ appends.more) after fetch.after later)
 KeepMboxPromises link disk file drop base done account devices (Left left now ∷ later) =
     ShowsMbox file devices account × HoldsEntries base done account × (ShowsMbox file left now
@@ -197,10 +198,6 @@ MboxFetchesKeepPromises {M} {D} {F} link disk file drop = (base : Base) (done : 
     (devices : Devices F F) (list : List (Happening (Fetch M F F) (Devices F F) MboxMail))
     → ShowsMbox file devices account → HoldsEntries base done account
     → KeepMboxPromises link disk file drop base done account devices list
-
--- nothing was fetched yet: the file is as it was before, and there is no row
-abbrev pub no_entries : (List ℕ → List ℕ) → List ℕ → Base
-no_entries text bytes = record { start = bytes; had = λ id. false; text = text }
 
 -- the law: so it is from any mboxrd file and no record on
 abbrev pub MboxFetchesFromNothing : {M D F : Type 0} → WireGhosts (Loop M) → DiskGhosts D → FileGhosts F

@@ -8,7 +8,6 @@ use Rattle.mail_terms.specs.Text.{lines_of_text}
 use Rattle.mail_store.specs.{
   Devices.stored_in,
   FileName.stem_of,
-  Maildir.all_there,
   declared.{maildir.disk.MaildirDisk.Ghosts as DiskGhosts, file.flat_file.FlatFile.Ghosts as FileGhosts},
 }
 use Rattle.rc_file.specs.declared.settings.Settings.{Settings}
@@ -86,32 +85,27 @@ server_with settings message = record {
   drop = record { slots = Some message ∷ []; failures = 0; removals = 0 };
 }
 
--- a call over a Maildir as each in memory is: its folders are there, and all in it can be opened; and memory didn't run
--- out: no call of the devices, of the maildrop or of the link was refused
-pub record HadMemory {D F : Type 0} (disk : DiskGhosts D) (file : FileGhosts F) (drop : DropGhosts DropMail)
-    (devices : Devices D F) (fetch : Fetch DropMail D F) : Type 0 where
-  pub there : (disk.maildir fetch.after.store).there ≡ all_there
-  pub none_odd : (disk.maildir fetch.after.store).odd ≡ []
-  pub store_sound : disk.sound fetch.after.store
-  pub file_sound : file.sound fetch.after.file
-  pub drop_sound : drop.sound fetch.wire.machine.drop
+-- memory didn't run out: no call of the devices or of the link was refused
+pub record HadMemory {D F : Type 0} (disk : DiskGhosts D) (file : FileGhosts F) (devices : Devices D F)
+    (fetch : Fetch DropMail D F) : Type 0 where
   pub store_refused : (disk.maildir fetch.after.store).failures ≡ (disk.maildir devices.store).failures
   pub file_refused : (stored_in file fetch.after.file).failures ≡ (stored_in file devices.file).failures
-  pub drop_refused : (drop.mail fetch.wire.machine.drop).failures ≡ 0
   pub up : fetch.wire.down ≡ false
   pub memory : fetch.report.outcome ≢ WasCut NoMemory
 
--- a law: from a Maildir without files and no record on, a call to a new server with one message, within the limits,
--- ends if memory didn't run out, and has stored the message
+-- a law: from a new Maildir without files and no record on, a call to a new server with one message, within the limits,
+-- that left these, ends if memory didn't run out, and has stored the message
 abbrev pub OneIsStored : {D F : Type 0} → WireGhosts (Loop DropMail) → DiskGhosts D → FileGhosts F
-    → DropGhosts DropMail → Type 0
-OneIsStored {D} {F} link disk file drop = (message : Message) (devices : Devices D F) (fetch : Fetch DropMail D F)
-    → IsMessage message → IsWithin message → AllowsAlone fetch.settings message.size
-    → (disk.maildir devices.store).files ≡ [] → (stored_in file devices.file).content ≡ None
+    → DropGhosts DropMail → (store : D) (left : DropMail) → Type 0
+OneIsStored {D} {F} link disk file drop store left = (message : Message) (devices : Devices D F)
+    (fetch : Fetch DropMail D F) → fetch.after.store ≡ store → fetch.wire.machine.drop ≡ left → IsMessage message
+    → IsWithin message → AllowsAlone fetch.settings message.size
+    → (disk.maildir devices.store).files ≡ [] → (disk.maildir devices.store).failures ≡ 0
+    → stored_in file devices.file ≡ record { content = None; failures = 0 }
     → fetch.server ≡ server_with fetch.settings message
     → WasFetchedLocally link disk file drop fetch.now (account_over InMaildir fetch.settings devices) fetch.server
     fetch.report (account_over InMaildir fetch.settings fetch.after) fetch.wire
-    → HadMemory disk file drop devices fetch
+    → HadMemory disk file devices fetch
     → (fetch.report.outcome ≡ Ended)
     × (copies (disk.maildir fetch.after.store).files (stem_of (digits_of fetch.settings) message.uid)
     ≡ message.text ∷ [])

@@ -7,7 +7,19 @@ use Rattle.mail_store.specs.declared.{
 }
 use Rattle.pop3_wire.specs.{declared.wire.Wire.Ghosts as WireGhosts}
 use Rattle.test_devices.specs.{LinkFuse.Fuse, declared.fused.Fused.Fused}
-use Rattle.fetch_runs.specs.Progress.{CallsGetFar, MboxCallsGetFar}
+use Rattle.fetch_runs.specs.{
+  Calls.{CallsKeepPromises, MboxCallsKeepPromises},
+  Order.{CallsKeepOrder, MboxCallsKeepOrder},
+  Progress.{CallsGetFar, MboxCallsGetFar},
+}
+
+-- a law: calls keep their promises and order, with a Maildir
+abbrev pub AllKeepPromises : {W D F : Type 0} → WireGhosts W → DiskGhosts D → FileGhosts F → Type 0
+AllKeepPromises link disk file = CallsKeepPromises link disk file × CallsKeepOrder link disk file
+
+-- and with an mboxrd file
+abbrev pub AllKeepMboxPromises : {W D F : Type 0} → WireGhosts W → DiskGhosts D → FileGhosts F → Type 0
+AllKeepMboxPromises link disk file = MboxCallsKeepPromises link disk file × MboxCallsKeepOrder link disk file
 
 -- a law: calls get far with a Maildir, and with an mboxrd file
 abbrev pub AllGetFar : {W D F : Type 0} → WireGhosts W → DiskGhosts D → FileGhosts F → Type 0
@@ -20,8 +32,8 @@ blown_link wire refused = record { wire = wire; left = 0; failures = refused }
 abbrev pub blown : {D : Type 0} → D → ℕ → Fused D
 blown device refused = record { device = device; passes_left = 0; takes_effect = false; failures = refused }
 
--- a link and devices that did what their traits say count as such behind a blown fuse too, however many calls it
--- refused: so a call after which they are behind one is a call as the laws ask
+-- a link and devices that did what their traits say count as such behind a blown fuse too, if it refused fewer calls
+-- than the greatest count: so a call after which they are behind one is a call as the laws ask
 pub record KillsHappen {W D F : Type 0} (link : WireGhosts W) (disk : DiskGhosts D) (file : FileGhosts F)
     (fused_link : WireGhosts (Fuse W)) (fused_disk : DiskGhosts (Fused D)) (fused_file : FileGhosts (Fused F))
     : Type 0 where

@@ -5,3 +5,4 @@ pub mod Local
 pub mod LoopLaws
 pub mod Losses
 pub mod Moves
+pub mod Twice

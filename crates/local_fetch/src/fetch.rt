@@ -1,6 +1,6 @@
 //! One session of an account over a server in memory.
 ghost use Rattle.std.specs.Prelude.{◌≡◌};
-ghost use Rattle.pop3_server.specs.HonestLoop.{IsUnused};
+ghost use Rattle.pop3_server.specs.{HonestLoop.{IsUnused}, LoopLink.{Loop}};
 ghost use Rattle.local_fetch.specs.Local.{WasFetchedLocally, loop_to};
 
 use crate::loop_wire::LoopWire;
@@ -18,7 +18,7 @@ use std::hash::BuildHasher;
 ///
 /// The only premise on the server is its maildrop's: the conversation is honest over the
 /// maildrop's messages, and of these only marked ones are gone, none while the server is open.
-pub fn fetch_local<D: MaildirDisk, F: FlatFile, H: BuildHasher, M: Maildrop>(
+pub fn fetch_over_loop<D: MaildirDisk, F: FlatFile, H: BuildHasher, M: Maildrop>(
     alloc: Global,
     account: &mut Account<D, F, H>,
     server: Server<M>,
@@ -39,4 +39,21 @@ pub fn fetch_local<D: MaildirDisk, F: FlatFile, H: BuildHasher, M: Maildrop>(
     let report = session(account, &mut wire, now);
     let _ = wire.failures();
     (report, wire)
+}
+
+/// Does what `fetch_over_loop` does, and returns the report and the server as its answers left it.
+pub fn fetch_local<D: MaildirDisk, F: FlatFile, H: BuildHasher, M: Maildrop>(
+    alloc: Global,
+    account: &mut Account<D, F, H>,
+    server: Server<M>,
+    now: u64,
+) -> (Report, Server<M>)
+    requires new { IsUnused (loop_to server) }
+    ensures settings { account.new.settings ≡ account.old.settings }
+    ensures fetched { (wire : Loop M) × WasFetchedLocally ⟦<LoopWire<M> as Wire>⟧ D.MaildirDisk F.FlatFile
+        M.Maildrop now account.old server
+        result.0 account.new wire × (result.1 ≡ wire.machine) }
+{
+    let (report, wire) = fetch_over_loop(alloc, account, server, now);
+    (report, wire.into_inner())
 }

@@ -1,27 +1,25 @@
 //! Laws over what sessions over a server in memory did.
-ghost use Rattle.fetch_runs.specs.{
-  Calls.{CallsKeepPromises, MboxCallsKeepPromises},
-  Headline.{Headline, MboxHeadline},
-};
+ghost use Rattle.fetch_runs.specs.Headline.{Headline, MboxHeadline};
 ghost use Rattle.local_fetch.specs.{
   Fetches.{FetchesFromNothing, FetchesKeepPromises, FirstFetchesKeepMail, MboxFetchesFromNothing},
   Fetches.{MboxFetchesKeepPromises, MboxFirstFetchesKeepMail},
   Good.{GoodFetchesStoreAll, OneIsStored},
-  Kills.{AllGetFar, KillsHappen},
+  Kills.{AllGetFar, AllKeepMboxPromises, AllKeepPromises, KillsHappen},
   Losses.{BytesAreTaken, LossesHappen, MboxLossesHappen, NamesAreTaken},
   Moves.MailIsMoved,
+  Twice.SecondsFetchNothing,
 };
 
 use crate::loop_wire::LoopWire;
 use fetch_runs::{
-    calls_get_far, calls_keep_promises, empty_accounts_hold, headline, laws_below,
-    mbox_calls_get_far, mbox_calls_keep_promises, mbox_headline, mbox_starts,
-    sessions_are_conversations,
+    calls_get_far, calls_keep_order, calls_keep_promises, empty_accounts_hold, headline,
+    laws_below, mbox_calls_get_far, mbox_calls_keep_order, mbox_calls_keep_promises, mbox_headline,
+    mbox_starts, sessions_are_conversations,
 };
 use fetch_session::good_sessions_store_all;
 use folder_store::HostFile;
-use mail_store::{FlatFile, MaildirDisk, MemoryFile, MemoryMaildir};
-use pop3_server::{Maildrop, MemoryDrop};
+use mail_store::{FlatFile, MaildirDisk, MemoryFile, MemoryMaildir, memory_can_be_opened};
+use pop3_server::{Maildrop, MemoryDrop, memory_refuses_nothing};
 use pop3_wire::Wire;
 use test_devices::{
     Fused, FusedWire, MemoryFolder, MemoryFolderMaildir, files_are_lost, mail_is_lost,
@@ -33,9 +31,8 @@ use test_devices::{
 /// its trait allows. So a kill may come at any call, also within a text, a merge or a settling; the statement goes
 /// on after it, and power may be lost there too.
 pub fn killed_calls_keep_promises<W: Wire, D: MaildirDisk, F: FlatFile>()
-    ensures calls { CallsKeepPromises ⟦<FusedWire<W> as Wire>⟧ ⟦<Fused<D> as MaildirDisk>⟧
-        ⟦<Fused<F> as FlatFile>⟧ }
-    ensures mbox_calls { MboxCallsKeepPromises ⟦<FusedWire<W> as Wire>⟧ ⟦<Fused<D> as MaildirDisk>⟧
+    ensures calls { AllKeepPromises ⟦<FusedWire<W> as Wire>⟧ ⟦<Fused<D> as MaildirDisk>⟧ ⟦<Fused<F> as FlatFile>⟧ }
+    ensures mbox_calls { AllKeepMboxPromises ⟦<FusedWire<W> as Wire>⟧ ⟦<Fused<D> as MaildirDisk>⟧
         ⟦<Fused<F> as FlatFile>⟧ }
     ensures in_order { Headline ⟦<FusedWire<W> as Wire>⟧ ⟦<Fused<D> as MaildirDisk>⟧ ⟦<Fused<F> as FlatFile>⟧ }
     ensures mbox_in_order { MboxHeadline ⟦<FusedWire<W> as Wire>⟧ ⟦<Fused<D> as MaildirDisk>⟧
@@ -45,7 +42,9 @@ pub fn killed_calls_keep_promises<W: Wire, D: MaildirDisk, F: FlatFile>()
         ⟦<Fused<D> as MaildirDisk>⟧ ⟦<Fused<F> as FlatFile>⟧ }
 {
     calls_keep_promises::<FusedWire<W>, Fused<D>, Fused<F>>();
+    calls_keep_order::<FusedWire<W>, Fused<D>, Fused<F>>();
     mbox_calls_keep_promises::<FusedWire<W>, Fused<D>, Fused<F>>();
+    mbox_calls_keep_order::<FusedWire<W>, Fused<D>, Fused<F>>();
     headline::<FusedWire<W>, Fused<D>, Fused<F>>();
     mbox_headline::<FusedWire<W>, Fused<D>, Fused<F>>();
     calls_get_far::<FusedWire<W>, Fused<D>, Fused<F>>();
@@ -70,6 +69,7 @@ pub fn losses_happen<'a>()
 pub fn fetches_keep_promises<M: Maildrop, D: MaildirDisk, F: FlatFile>()
     ensures { FetchesKeepPromises ⟦<LoopWire<M> as Wire>⟧ D.MaildirDisk F.FlatFile M.Maildrop }
 {
+    calls_keep_order::<LoopWire<M>, D, F>();
     calls_keep_promises::<LoopWire<M>, D, F>();
 }
 
@@ -101,6 +101,7 @@ pub fn mail_is_moved<M: Maildrop, D: MaildirDisk, F: FlatFile>()
 pub fn mbox_fetches_keep_promises<M: Maildrop, D: MaildirDisk, F: FlatFile>()
     ensures { MboxFetchesKeepPromises ⟦<LoopWire<M> as Wire>⟧ D.MaildirDisk F.FlatFile M.Maildrop }
 {
+    mbox_calls_keep_order::<LoopWire<M>, D, F>();
     mbox_calls_keep_promises::<LoopWire<M>, D, F>();
 }
 
@@ -167,14 +168,28 @@ pub fn all_is_stored_in_memory()
     good_fetches_store_all::<MemoryDrop, MemoryMaildir, MemoryFile>();
 }
 
-/// The good path can happen: from an empty Maildir in memory and no record on, a call to a new server in memory that
-/// has one message ends, and the message is in one file, with its text. The only premises are that the message's id
-/// is legal, its text ends in LF and is within the limits, that afterwards the Maildir is as each in memory is (its
-/// folders are there, and all in it can be opened), and that memory doesn't run out.
-pub fn one_is_stored_in_memory()
+/// The good path can happen: from a new Maildir in memory and no record on, a call to a new server in memory that has
+/// one message and the account's user and password, and that left this Maildir and this maildrop, ends, and the message
+/// is in one file, with its text. The only premises are that the message's id is legal, its text is empty or ends in LF
+/// and is within the limits, that the devices are new, and that memory doesn't run out.
+pub fn one_is_stored_in_memory(store: &MemoryMaildir, drop: &MemoryDrop)
     ensures { OneIsStored ⟦<LoopWire<MemoryDrop> as Wire>⟧ ⟦<MemoryMaildir as MaildirDisk>⟧
+        ⟦<MemoryFile as FlatFile>⟧ ⟦<MemoryDrop as Maildrop>⟧ store.now drop.now }
+{
+    memory_can_be_opened(store);
+    memory_refuses_nothing(drop);
+    good_fetches_store_all::<MemoryDrop, MemoryMaildir, MemoryFile>();
+    first_fetches_keep_mail::<MemoryDrop, MemoryMaildir, MemoryFile>();
+}
+
+/// A second call fetches nothing: over any messages with distinct ids, from an empty Maildir in memory and no record
+/// on, without limits, a call that ended has stored each in one file; and one after it over the same messages that
+/// ended too and reads only what is new has sent no RETR and added no file.
+pub fn seconds_fetch_nothing_in_memory()
+    ensures { SecondsFetchNothing ⟦<LoopWire<MemoryDrop> as Wire>⟧ ⟦<MemoryMaildir as MaildirDisk>⟧
         ⟦<MemoryFile as FlatFile>⟧ ⟦<MemoryDrop as Maildrop>⟧ }
 {
-    good_fetches_store_all::<MemoryDrop, MemoryMaildir, MemoryFile>();
+    empty_accounts_hold();
+    fetches_keep_promises::<MemoryDrop, MemoryMaildir, MemoryFile>();
     first_fetches_keep_mail::<MemoryDrop, MemoryMaildir, MemoryFile>();
 }

@@ -62,7 +62,7 @@ impl<D: Maildrop> Model for LoopWire<D> {
 impl<D: Maildrop> LoopWire<D> {
     /// A link to this server; nothing was sent over it yet.
     pub fn new(alloc: Global, server: Server<D>) -> LoopWire<D>
-        ensures { result ≡ record {
+        ensures state { result ≡ record {
           machine = server;
           link = record { sent = []; got = []; ended = false; failures = 0 };
           answers = [];
@@ -70,6 +70,7 @@ impl<D: Maildrop> LoopWire<D> {
           waiting = [];
           down = false;
         } }
+        ensures sound { ⟦<LoopWire<D> as Wire>⟧.sound result }
     {
         LoopWire {
             server,

@@ -3,14 +3,14 @@ use Rattle.std.proofs.Common.{ap}
 use Rattle.pop3_server.specs.LoopLink.{Loop}
 use Rattle.session_parts.specs.{Account.digits_of, Session.{account_files, mbox_account_files}, Target.{maildir_of, mbox_of}}
 use Rattle.local_fetch.proofs.LocalLemmas.{by_kind, fetches, mbox_fetches, few_refused}
-use Rattle.local_fetch.proofs.fetch.fetch_local.Goals as goal
+use Rattle.local_fetch.proofs.fetch.fetch_over_loop.Goals as goal
 
 pub returns-clause-fetched : goal.returns-clause-fetched
 returns-clause-fetched g c =
     let small = few_refused c.new-wire.result.link _ c.session-report.result.outcome
-    (ap (λ (l : Loop _). l.link.failures) c.new-wire.ensures) c.session-report.ensures.limits.0 in
+    (ap (λ (l : Loop _). l.link.failures) c.new-wire.ensures.state) c.session-report.ensures.limits.0 in
     let valid = rw c.settings.ensures.value at c.settings.ensures.valid in
-    let ran = rw c.new-wire.ensures at c.session-report.ensures.session in
+    let ran = rw c.new-wire.ensures.state at c.session-report.ensures.session in
     let same = c.session-report.ensures.same in
     let disk = g.D.MaildirDisk in
     let file = g.F.FlatFile in

@@ -1,0 +1,5 @@
+use Rattle.fetch_runs.proofs.Calls as lemmas
+use Rattle.fetch_runs.proofs.laws.calls_keep_order.Goals as goal
+
+pub returns : goal.returns
+returns g c = lemmas.keep_order c.laws_below.ensures g.W.Wire g.D.MaildirDisk g.F.FlatFile
