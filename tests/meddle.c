@@ -12,8 +12,8 @@
 
    Each time that the file of MEDDLE_REFUSED is opened, that answers -1 with EACCES. Each read of the file of
    MEDDLE_BROKEN but the first answers -1 with EIO, and so does each removal of the file of MEDDLE_KEPT. With MEDDLE_WHEN
-   nothing of all this happens before the file of that path is there. A file is known by the path that the program gives,
-   or by that of the open folder through which it gives it; a folder's ends with a slash. */
+   nothing of all this happens before the file of that path is there. A file is known by the path that the program gives;
+   a folder's ends with a slash. */
 
 #include "preloaded.h"
 #include <dirent.h>
@@ -51,11 +51,9 @@ static void move_to_and_fro(void)
     moved = !moved;
 }
 
-static int meddle(const char *given)
+static int meddle(const char *path)
 {
     int elsewhere = getenv("MEDDLE_AT") || getenv("MEDDLE_READ") || getenv("MEDDLE_MISSED");
-    char room[PATH_MAX];
-    const char *path = named_path(given, room);
 
     if (!is_on())
         return 0;
@@ -66,11 +64,8 @@ static int meddle(const char *given)
     return is_named(path, "MEDDLE_REFUSED") ? refused(EACCES) : 0;
 }
 
-static int noted(const char *given, int file)
+static int noted(const char *path, int file)
 {
-    char room[PATH_MAX];
-    const char *path = named_path(given, room);
-
     if (file >= 0 && (file == read_file || is_named(path, "MEDDLE_READ")))
         read_file = is_named(path, "MEDDLE_READ") ? file : -1;
     if (file >= 0 && (file == broken_file || is_named(path, "MEDDLE_BROKEN")))
@@ -97,15 +92,6 @@ int unlink(const char *path)
     NEXT(unlink);
 
     return is_named(path, "MEDDLE_KEPT") && is_on() ? refused(EIO) : next(path);
-}
-
-int unlinkat(int folder, const char *name, int flags)
-{
-    NEXT(unlinkat);
-    char rest[PATH_MAX], room[PATH_MAX];
-
-    snprintf(rest, sizeof rest, "/%s", name);
-    return is_named(path_in(folder, rest, room), "MEDDLE_KEPT") && is_on() ? refused(EIO) : next(folder, name, flags);
 }
 
 ssize_t read(int file, void *octets, size_t count)

@@ -66,26 +66,6 @@ static inline const char *path_of(int descriptor, char path[PATH_MAX])
     return path;
 }
 
-/* The path of what is open, and what comes behind it. */
-static inline const char *path_in(int descriptor, const char *rest, char path[PATH_MAX])
-{
-    char folder[PATH_MAX];
-
-    if (snprintf(path, PATH_MAX, "%s%s", path_of(descriptor, folder), rest) >= PATH_MAX)
-        path[0] = 0;
-    return path;
-}
-
-/* The path that `/proc/self/fd/5/a` leads to; any other path is as it is. */
-static inline const char *named_path(const char *path, char room[PATH_MAX])
-{
-    int descriptor, length = 0;
-
-    if (sscanf(path, "/proc/self/fd/%d%n", &descriptor, &length) != 1 || !length)
-        return path;
-    return path_in(descriptor, path + length, room);
-}
-
 /* Makes an empty file, which with O_EXCL isn't there yet. */
 static inline void make_file(const char *path, int flags)
 {

@@ -4,8 +4,8 @@
        STEP_BELOW=/home/fred STEP_NOTE=note STEP_REFUSED=7 STEP_EFFECT=half LD_PRELOAD=./refuse_step.so PROGRAM ..
 
    The steps are open, openat, stat, lstat, fstat, lseek, read, write, fsync, ftruncate, rename, link and unlink of a file
-   or a folder below that one, by its path or through a folder that is open, and connect, send and recv. Each adds a line to
-   the file `note`: its word and what it is for.
+   or a folder below that one, and connect, send and recv. Each adds a line to the file `note`: its word and what it is
+   for.
    The seventh, here, is answered -1 with EIO, or with the error STEP_ERROR, and its line begins with `refused`. Its
    effect is `none`, `whole`, `half`, the first half of the bytes for a write or a send and nothing for any other step, or
    `zero`: a write is answered 0.
@@ -65,11 +65,8 @@ static enum effect taken_of(const char *word, int descriptor)
     return is_of_file(descriptor) ? taken(word, path_of(descriptor, path)) : DONE;
 }
 
-static enum effect taken_at(const char *word, const char *given)
+static enum effect taken_at(const char *word, const char *path)
 {
-    char room[PATH_MAX];
-    const char *path = named_path(given, room);
-
     return is_below(path) ? taken(word, path) : DONE;
 }
 
@@ -188,21 +185,6 @@ int unlink(const char *path)
         return next(path);
     if (effect == WHOLE)
         next(path);
-    return stopped();
-}
-
-int unlinkat(int folder, const char *name, int flags)
-{
-    NEXT(unlinkat);
-    char rest[PATH_MAX], path[PATH_MAX];
-    enum effect effect;
-
-    snprintf(rest, sizeof rest, "/%s", name);
-    effect = is_below(path_in(folder, rest, path)) ? taken("unlink", path) : DONE;
-    if (effect == DONE)
-        return next(folder, name, flags);
-    if (effect == WHOLE)
-        next(folder, name, flags);
     return stopped();
 }
 

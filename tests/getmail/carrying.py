@@ -79,9 +79,10 @@ class Home:
             (self.server.port, "u"), (self.server.port, "w"), (self.other_server.port, "u")))
         self.words = ["-g", self.folder, LOOPBACK, self.server.port, "u", LOOPBACK, self.server.port, "w",
                       *([] if self.is_mboxrd else [self.maildir])]
-        self.prepare()
+        self.waiting = self.folder / f"carried-{self.old}-{self.new}.record"
         self.start = self.home.with_name(self.home.name + ".start")
-        shutil.copytree(self.home, self.start, symlinks=True)
+        self.prepare()
+        self.keep()
 
     def __enter__(self):
         return self
@@ -116,6 +117,11 @@ class Home:
         for uid in (b"1", b"b/c"):
             name = self.account.name(uid, dict(FIRST)[uid])
             os.rename(self.maildir / "new" / name, self.maildir / "cur" / f"{name}:2,S")
+
+    def keep(self):
+        """All is to begin as it is now."""
+        shutil.rmtree(self.start, ignore_errors=True)
+        shutil.copytree(self.home, self.start, symlinks=True)
 
     def restore(self):
         """All is as it was at first."""

@@ -8,7 +8,14 @@ import subprocess
 
 from harness import programs
 
-# What the line of progress says.
+# The line of progress, which the terminal isn't to wrap, and what erases it.
+LINE = re.compile(rb"\r\x1b\[\?7l([^\x1b]*)\x1b\[K\x1b\[\?7h")
+ERASED = b"\r\x1b[K"
+
+# An octet that is shown, or one of the sequences of that line.
+PIECE = re.compile(rb"\x1b\[(?:\?7[lh]|K)|.", re.DOTALL)
+
+# What the line says.
 TEXT = re.compile(rb"message (\d+) of (\d+)(?:, (\d+(?:\.\d)?) of (\d+(?:\.\d)?) ([kM])B)?")
 
 
@@ -18,17 +25,25 @@ def told_in(found):
     return int(found[1]), int(found[2]), *(round(float(part or 0) * unit) for part in found.group(3, 4))
 
 
-def screen_of(octets):
-    """What a terminal's lines show after these octets."""
-    lines, column = [b""], 0
-    for octet in octets:
-        if octet == ord("\r"):
+def screen_of(octets, width=200):
+    """What the lines of a terminal of so many columns show after these octets."""
+    lines, column, wraps = [b""], 0, True
+    for piece in PIECE.findall(octets):
+        if piece == b"\r":
             column = 0
-        elif octet == ord("\n"):
+        elif piece == b"\n":
             lines.append(b"")
+        elif piece == b"\x1b[K":
+            lines[-1] = lines[-1][:min(column, width - 1)]
+        elif piece in (b"\x1b[?7l", b"\x1b[?7h"):
+            wraps = piece.endswith(b"h")
         else:
+            if column == width and wraps:
+                lines.append(b"")
+                column = 0
+            column = min(column, width - 1)
             line = lines[-1].ljust(column)
-            lines[-1] = line[:column] + bytes([octet]) + line[column + 1:]
+            lines[-1] = line[:column] + piece + line[column + 1:]
             column += 1
     return [line.rstrip() for line in lines]
 

@@ -143,7 +143,7 @@ class InHome(unittest.TestCase):
         """It was done, and told nothing but these odd names."""
         run = self.carry()
         told = "".join(f"{self.script.shown(path)}: no file of a message, left as it is\n" for path in odd)
-        self.assertEqual((run.status, run.err.decode()), (0, told))
+        self.assertEqual((run.status, run.err.decode(), self.home.waiting.exists()), (0, told, False))
         return run
 
     def check_stopped(self, *told, words=()):
@@ -268,6 +268,11 @@ class Others(InHome):
             words[place] = number
             run = run_apart("carry-account", *words)
             self.assertEqual((run.status, run.out), (2, b""))
+        for word in ("--", "-x"):
+            words = ["-g", self.home.folder, "--", LOOPBACK, self.home.server.port, word, *self.home.words[5:]]
+            self.check_stopped("hasn't run for the old account", words=words)
+            run = self.carry(*(each for each in words if each is not words[2]))
+            self.assertEqual((run.status, run.out), (1, b""))
         same = self.home.words[:5] + self.home.words[2:5]
         self.check_stopped("both accounts are the same", words=same)
         odd = [*map(os.fsencode, map(str, self.home.words))]
@@ -278,6 +283,104 @@ class Others(InHome):
 
     def test_no_maildir(self):
         self.check_stopped("cur: No such file or directory", words=[*self.home.words[:-1], self.home.folder])
+
+
+class NewRcFileFirst(InHome):
+    """`getmail` has run with the new rc file before the script, and so has fetched all mail."""
+
+    def setUp(self):
+        super().setUp()
+        self.home.fetch("new")
+
+    def test_it_is_put_right_if_that_is_asked_for(self):
+        """What both have is there once, where it was read, and no run fetches it again."""
+        home = self.home
+        self.check_stopped(home.record(home.old), home.record(home.new), "--same-account")
+        run = self.carry(*home.words, "--same-account")
+        self.assertEqual((run.status, run.err, home.names(home.old), home.faults()), (0, b"", [], NONE))
+        home.server.messages.append((b"e", b"five\n"))
+        home.fetch("getmailrc")
+        self.check_carried()
+        home.fetch("new")
+        self.assertEqual((len(home.names(home.new)), home.faults((b"e", b"five\n"))), (5, NONE))
+
+    def test_a_message_that_has_two_texts(self):
+        """Then they are two accounts, also if only one of four is different; a link shows no text."""
+        words = [*self.home.words, "--same-account"]
+        for path, uid in ((self.path("new", self.home.old, b"2"), b"2"), (self.path("cur", self.home.old, b"b/c", ":2,S"), b"b/c")):
+            before = path.read_bytes()
+            path.write_bytes(before.upper())
+            self.check_stopped(path, self.path("new", self.home.new, uid), "two accounts", words=words)
+            path.write_bytes(before)
+        there = self.path("new", self.home.new, b"d")
+        there.rename(there.with_name("other"))
+        there.symlink_to("other")
+        self.check_stopped(there, words=words)
+
+    def test_no_message_of_both(self):
+        for name in self.home.names(self.home.old):
+            for part in ("new", "cur"):
+                (self.home.maildir / part / name).unlink(missing_ok=True)
+        self.check_stopped(self.home.record(self.home.new), "no message of both", words=[*self.home.words, "--same-account"])
+
+    def test_an_account_with_the_same_ids(self):
+        """Whatever is asked for, it isn't taken for the same one."""
+        home = self.home
+        words = ["-g", home.folder, LOOPBACK, home.server.port, "u", LOOPBACK, home.other_server.port, "u", home.maildir]
+        self.check_stopped(self.path("cur", home.old, b"1", ":2,S"), words=[*words, "--same-account"])
+
+
+class NewRcFileFirstIntoAFile(InHome):
+    KIND = MboxAccount
+
+    def test_nothing_has_to_be_carried(self):
+        home = self.home
+        home.fetch("new")
+        for words in (home.words, [*home.words, "--same-account"]):
+            self.check_stopped(home.record(home.old), home.record(home.new), "nothing has to be carried", words=words)
+
+
+class Names(InHome):
+    """How a file gets another name."""
+
+    def test_a_file_system_that_spares_nothing(self):
+        """It has neither a rename that replaces nothing nor links: nothing is changed, and nothing of the script is left."""
+        home = self.home
+        start = sorted(path for path in home.home.rglob("*") if not path.name.startswith("lock-"))
+        refusal = PermissionError(errno.EPERM, os.strerror(errno.EPERM))
+        for below in (home.folder, home.maildir):
+            def link(old, new, below=below, real=os.link):
+                if str(old).startswith(str(below)):
+                    raise refusal
+                real(old, new)
+            with mock.patch("ctypes.CDLL", lambda *_, **__: object()), mock.patch.object(os, "link", link):
+                self.check_stopped(f"{below}", "neither a rename that replaces nothing nor links")
+            there = sorted(path for path in home.home.rglob("*") if not path.name.startswith("lock-"))
+            self.assertEqual(there, start)
+
+    def test_what_a_killed_trial_leaves(self):
+        """A run removes it once it is an hour old."""
+        home = self.home
+        with mock.patch.object(os, "unlink"):
+            self.check_carried()
+        left = [path for path in (*home.folder.iterdir(), *(home.maildir / "tmp").iterdir()) if ".P" in path.name]
+        self.assertEqual(len(left), 2)
+        for path in left:
+            os.utime(path, (0, 0))
+        home.server.messages.append((b"e", b"five\n"))
+        home.fetch("new")
+        self.assertEqual([path for path in left if path.exists()], [])
+
+    def test_an_odd_thing_in_the_place_of_the_record_that_waits(self):
+        home = self.home
+        other = home.folder / "other-file"
+        other.write_bytes(b"getmail-seen 2\n")
+        for make in (home.waiting.mkdir, lambda: os.mkfifo(home.waiting), lambda: home.waiting.symlink_to(other),
+                     lambda: home.waiting.symlink_to("nowhere")):
+            make()
+            self.check_stopped(home.waiting, "no regular file")
+            home.waiting.rmdir() if home.waiting.is_dir() else home.waiting.unlink()
+        self.assertEqual(other.read_bytes(), b"getmail-seen 2\n")
 
 
 class Records(InHome):

@@ -44,7 +44,16 @@ class FromGetmail6(unittest.TestCase):
         self.assertEqual(os.listdir(self.folder), [self.oldmail.name])
 
     def test_each_line_is_a_row(self):
-        self.check_record(b"a\x001600000000\nb/c\x001600000001\r\na\x001600000002", [b"a 1600000000 1", b"b/c 1600000001 1"])
+        self.check_record(b"a\x001600000000\nb/c\x001600000001\r\na\x001600000002\n", [b"a 1600000000 1", b"b/c 1600000001 1"])
+
+    def test_a_list_that_is_cut_short_is_refused(self):
+        """Else the message of the last line was first seen in 1970, or has another id, and `delete_after` counts from there."""
+        whole = b"a\x001600000000\nb\x001600000001\r\n"
+        for end in range(14, len(whole)):
+            run = self.run_script(whole[:end])
+            self.assertEqual((run.returncode, run.stdout, os.listdir(self.folder)), (1, "", [self.oldmail.name]), whole[:end])
+            self.assertIn("nothing was written", run.stderr)
+        self.assertIn(f"{self.oldmail}: its last line has no end", run.stderr)
 
     def test_an_empty_file_names_no_message(self):
         self.check_record(b"", [])

@@ -94,6 +94,22 @@ class Lists(unittest.TestCase):
                 with self.subTest(program, file=name):
                     self.check_refused(self.convert(program, content), f": line {line} is no line of ")
 
+    def test_a_list_that_is_cut_short_is_refused(self):
+        for program, content in (("mpop", b" 1 h fred\na"), ("fetchmail", b"fred@h a")):
+            self.check_refused(self.convert(program, content), ": its last line has no end")
+
+    def test_words_that_begin_like_options(self):
+        """The first `--` ends the options; a later one may be the user's name, and none is a fault of the script."""
+        words = [sys.executable, programs.ROOT / "examples/from-fetchmail.py", "-g", self.folder]
+        self.list.write_bytes(b"--@h a\n-x@h b\n")
+        for user, rows in (("--", 1), ("-x", 1)):
+            run = subprocess.run([*words, "--", "mail.example.org", "110", user, self.list], capture_output=True, text=True)
+            self.assertEqual((run.returncode, run.stderr), (0, ""))
+            self.assertIn(f": {rows} messages\n", run.stdout)
+        run = subprocess.run([*words, "mail.example.org", "110", "--", self.list], capture_output=True, text=True)
+        self.assertEqual((run.returncode, run.stdout), (2, ""))
+        self.assertIn("the following arguments are required", run.stderr)
+
     def test_a_record_that_is_there_stays(self):
         self.record.write_bytes(b"as it was")
         run = self.convert("fetchmail", b"fred@h a\n")

@@ -1,6 +1,7 @@
 """What `make install` and `make dist` put where, that `make uninstall` leaves nothing of it, and the line for cron."""
 
 import gzip
+import itertools
 import os
 import re
 import shutil
@@ -99,9 +100,9 @@ def copy_repository(top):
         (top / "crates" / crate / "src").mkdir(parents=True)
         (top / "crates" / crate / "src/lib.rt").write_text(f"//! {crate}\n")
     for name in ("getmail", "popd"):
-        shown = subprocess.run(["python3", "-Bc", f"import build; print(build.checksum('{name}'))"], cwd=top, check=True,
-                               stdout=subprocess.PIPE)
-        (top / "bin" / f"{name}.sources").write_bytes(shown.stdout)
+        tell = f"import build; print(build.checksums(build.TOP / 'bin/{name}', build.checksum('{name}')), end='')"
+        shown = subprocess.run(["python3", "-Bc", tell], cwd=top, check=True, stdout=subprocess.PIPE)
+        (top / "bin" / f"{name}.sha256").write_bytes(shown.stdout)
 
 
 class Copied(unittest.TestCase):
@@ -136,6 +137,15 @@ class Copied(unittest.TestCase):
             (folder / "rt").write_text(rt)
             (folder / "rt").chmod(0o755)
         return str(folder)
+
+
+def check_disabled(test, told):
+    """Each unit that a user can enable is named, and crontab."""
+    units = {path.name.replace("@.", "@FILE.") for path in (programs.ROOT / "examples").iterdir()
+             if path.is_file() and "\n[Install]\n" in path.read_text()}
+    test.assertEqual(set(re.findall(r"[\w@-]+\.(?:timer|socket|service)", told)), units)
+    for part in ("systemctl --user disable --now", "crontab -e"):
+        test.assertIn(part, told)
 
 
 class Install(Copied):
@@ -188,6 +198,28 @@ class Install(Copied):
             self.assertEqual((done.returncode, done.stderr), (2, f"install.sh: PREFIX is a full path, and not {prefix}\n"))
             self.assertFalse((self.top / prefix).exists())
 
+    def test_a_prefix_has_no_letter_that_means_something_else(self):
+        """In a unit, a crontab, a man page or the script itself. What others are in a PREFIX, a unit names."""
+        for letter in " \t\n\x01\\\"'`$&|;<>()*?[]{}#%:!":
+            prefix = f"{self.place}/a{letter}b"
+            done = subprocess.run(["./install.sh"], cwd=self.top, env=programs.environment(PREFIX=prefix), capture_output=True,
+                                  text=True, timeout=programs.SECONDS)
+            self.assertEqual((done.returncode, done.stdout, self.place.exists()), (2, "", False), prefix)
+            self.assertIn("install.sh: PREFIX has ", done.stderr)
+        prefix = "srv/my-mail_1.0/jos\u00e9,+=@~^"
+        self.make("install", f"DESTDIR={self.place} and more", f"PREFIX=/{prefix}")
+        self.check_names(Path(f"{self.place} and more") / prefix, f"/{prefix}")
+
+    def test_another_folder_of_this_name(self):
+        """To which CDPATH leads: its program isn't taken."""
+        other = self.top.parent / "other" / self.top.name / "bin"
+        other.mkdir(parents=True)
+        for name in ("getmail", "popd"):
+            (other / name).write_text("another's")
+        subprocess.run(["sh", f"{self.top.name}/install.sh"], cwd=self.top.parent, check=True, timeout=programs.SECONDS,
+                       env=programs.environment(CDPATH=str(other.parent.parent), PREFIX=str(self.place)))
+        self.assertEqual((self.place / "bin/getmail").read_bytes(), programs.path_of("getmail").read_bytes())
+
     def test_without_the_programs_a_line_says_so(self):
         (self.top / "bin/popd").unlink()
         done = subprocess.run(["./install.sh"], cwd=self.top, env=programs.environment(PREFIX=str(self.place)), capture_output=True,
@@ -196,28 +228,67 @@ class Install(Copied):
         self.assertEqual((done.returncode, done.stderr, self.place.exists()), (2, told, False))
 
     def test_what_others_have_there_stays(self):
-        (self.place / "usr/local/bin").mkdir(parents=True)
-        (self.place / "usr/local/bin/other").touch()
+        others = {f"{Path(name).parent}/other" for name in ("bin/getmail", *COMPLETIONS, *UNITS, *DOCUMENTS)}
+        for name in others:
+            (self.place / "usr/local" / name).parent.mkdir(parents=True, exist_ok=True)
+            (self.place / "usr/local" / name).touch()
         self.make("install", f"DESTDIR={self.place}")
         self.make("uninstall", f"DESTDIR={self.place}")
-        self.assertEqual(list(self.files("usr/local")), ["bin/other"])
+        self.assertEqual(set(self.files("usr/local")), others)
+        self.assertIn("share/doc/getmail/other", others)
+
+    def test_what_users_have_to_disable_is_said_first(self):
+        """Before a file goes: each unit that can be enabled, and the line for cron."""
+        self.make("install", f"DESTDIR={self.place}")
+        folder = self.top.parent / "path"
+        folder.mkdir()
+        (folder / "rm").write_text("#!/bin/sh\necho rm\nexec /bin/rm \"$@\"\n")
+        (folder / "rm").chmod(0o755)
+        told = self.make("uninstall", f"DESTDIR={self.place}", PATH=f"{folder}:{os.environ['PATH']}")
+        check_disabled(self, told[:told.index("\nrm\n")])
 
     def test_what_a_link_leads_to_stays(self):
         """Each file takes the place of a link, and what else has its name with `.new`, as a kill leaves it, goes."""
         other = self.top.parent / "other"
         other.write_text("another's")
         names = ("bin/getmail", "bin/popd.new", "share/man/man1/getmail.1", "share/doc/getmail/README.md.new")
-        for name in names:
+        folder = self.top.parent / "other-folder"
+        folder.mkdir()
+        for name, there in (*((name, other) for name in names), ("bin/popd", folder), ("share/doc/getmail/LICENSE.new", folder)):
             (self.place / name).parent.mkdir(parents=True, exist_ok=True)
-            (self.place / name).symlink_to(other)
+            (self.place / name).symlink_to(there)
         self.make("install", f"PREFIX={self.place}")
-        self.assertEqual(other.read_text(), "another's")
+        self.assertEqual((other.read_text(), os.listdir(folder)), ("another's", []))
         self.assertEqual([path for path in self.place.rglob("*") if path.is_symlink() or path.suffix == ".new"], [])
         self.assertEqual((self.place / "bin/getmail").read_bytes(), programs.path_of("getmail").read_bytes())
         (self.place / "bin/popd.new").symlink_to(other)
         self.make("uninstall", f"PREFIX={self.place}")
         self.assertEqual([path for path in self.place.rglob("*") if not path.is_dir()], [])
         self.assertEqual(other.read_text(), "another's")
+
+    def test_a_link_that_comes_meanwhile_leads_nowhere(self):
+        """Another user, who may write the folders, puts a link in the place of each new file, before and after each call: what it
+        leads to keeps its mode and its text, and nothing is written there."""
+        kept, folder = self.top.parent / "kept", self.top.parent / "path"
+        for path in (kept, folder):
+            path.mkdir()
+        for file in ("file", "other"):
+            (kept / file).write_text("another's")
+            (kept / file).chmod(0o600)
+        begun = self.top.parent / "begun"
+        # Whatever the place of the new file is, there is a link in it.
+        meddle = f"/usr/bin/find '{self.place}' -name '*.new' -type f -exec /bin/ln -sf '{kept}/file' '{{}}' ';'"
+        for name in ("mkdir", "rm", "chmod", "cp", "mv", "cat", "sed", "dirname", "basename", "install", "ln"):
+            (folder / name).write_text(f'#!/bin/sh\n{meddle}\n{shutil.which(name)} "$@"\nstatus=$?\n{meddle}\n'
+                                       f"echo {name} >> '{begun}'\nexit $status\n")
+            (folder / name).chmod(0o755)
+        self.place.mkdir()
+        for words in ([], ["--remove"]):
+            subprocess.run(["./install.sh", *words], cwd=self.top, capture_output=True, timeout=programs.SECONDS,
+                           env=programs.environment(PREFIX=str(self.place), PATH=f"{folder}:{os.environ['PATH']}"))
+            found = {path.name: (path.read_text(), stat.S_IMODE(path.lstat().st_mode)) for path in kept.iterdir()}
+            self.assertEqual(found, {name: ("another's", 0o600) for name in ("file", "other")})
+        self.assertGreater(begun.read_text().count("mv"), 30)
 
     def test_a_program_that_runs_is_replaced(self):
         self.make("install", f"PREFIX={self.place}")
@@ -228,6 +299,8 @@ class Install(Copied):
             self.assertEqual(told, b"+OK bye\r\n")
 
     def test_the_programs_are_installed_as_they_are(self):
+        """Where there are no sources, as in an archive, whatever they are."""
+        shutil.rmtree(self.top / "crates")
         for name in ("getmail", "popd"):
             (self.top / "bin" / name).write_text(f"{name} of another day")
         self.make("install", f"PREFIX={self.place}")
@@ -270,13 +343,36 @@ class Install(Copied):
         self.make("install", "dist", f"DESTDIR={self.place}")
         for name in ("place", "repository/dist"):
             shutil.rmtree(self.top.parent / name)
-        source, sources = self.top / "crates/folder_drop/src/lib.rt", self.top / "bin/getmail.sources"
-        refused = "bin/{} was not proved from these sources: `make` proves and builds it"
-        for program, change in (("popd", lambda: source.write_text("other\n")), ("getmail", sources.unlink)):
+        source, sums = self.top / "crates/folder_drop/src/lib.rt", self.top / "bin/getmail.sha256"
+        for program, change in (("popd", lambda: source.write_text("other\n")), ("getmail", sums.unlink)):
             change()
-            for words in (["install", f"DESTDIR={self.place}"], ["dist"]):
-                self.assertEqual(self.refusal(*words), [refused.format(program)])
+            self.check_refused(f"bin/{program} was not proved from these sources: `make` proves and builds it")
+
+    def check_refused(self, line):
+        """Nothing is installed, no archive and no package is made, and the line says why."""
+        for words in (["install", f"DESTDIR={self.place}"], ["dist"]):
+            self.assertEqual(self.refusal(*words), [line])
         self.assertFalse(self.place.exists() or (self.top / "dist").exists())
+
+    def test_a_program_that_was_not_built_is_refused(self):
+        """Another one in its place, or one octet of it; also if the checksum of its sources alone is there."""
+        for name, change in (("getmail", lambda path: shutil.copy("/bin/echo", path)), ("popd", self.change_an_octet)):
+            path, sums = (self.top / "bin" / file for file in (name, f"{name}.sha256"))
+            before = path.read_bytes()
+            change(path)
+            self.check_refused(f"bin/{name} is not the program that was built: `make` proves and builds it")
+            path.write_bytes(before)
+            program, sources = sums.read_text().splitlines()
+            sums.write_text(f"{sources}\n")
+            self.check_refused(f"bin/{name} is not the program that was built: `make` proves and builds it")
+            sums.write_text(f"{program}\n{sources}\n")
+        self.make("install", "dist", f"DESTDIR={self.place}")
+
+    @staticmethod
+    def change_an_octet(path):
+        content = bytearray(path.read_bytes())
+        content[len(content) // 2] ^= 1
+        path.write_bytes(content)
 
     def test_without_rt_a_line_says_what_is_missing(self):
         path = self.path_with()
@@ -433,6 +529,11 @@ class Dist(Copied):
             told = subprocess.run([self.place / "DEBIAN/postinst", *words], check=True, capture_output=True, text=True)
             self.assertEqual((told.stdout, told.stderr.count("\n")), ("", lines))
             self.assertEqual("FROM-GETMAIL6.md" in told.stderr, lines == 1)
+        for words, is_told in ((["remove"], True), (["upgrade", "0.2"], False), (["deconfigure"], False)):
+            told = subprocess.run([self.place / "DEBIAN/prerm", *words], check=True, capture_output=True, text=True)
+            self.assertEqual((told.stdout, bool(told.stderr)), ("", is_told))
+            if is_told:
+                check_disabled(self, told.stderr)
         news = gzip.decompress((self.place / "usr/share/doc/quailtuffet/NEWS.Debian.gz").read_bytes()).decode()
         self.assertIn("FROM-GETMAIL6.md", news)
 
@@ -565,7 +666,7 @@ class Demo(Copied):
         """Those alone, without their mutants and what was built before. It says how far it is."""
         for name in ("getmail", "popd"):
             (self.top / "bin" / name).rename(self.top / f"{name}.built")
-            (self.top / "bin" / f"{name}.sources").unlink()
+            (self.top / "bin" / f"{name}.sha256").unlink()
         for name in ("must-fail", "out"):
             (self.top / "crates/mail_store" / name).mkdir()
         log = self.top.parent / "log"
@@ -643,11 +744,12 @@ class Readme(Copied):
                 self.stand_in(home, "stunnel", 'echo "$*" > ~/started')
                 self.stand_in(home, "crontab", 'if [ "$1" = -l ]; then cat ~/lines; else cat > ~/new; mv ~/new ~/lines; fi')
                 (home / ".getmail").mkdir()
+                (home / ".getmail").chmod(0o775)
                 (home / ".getmail/getmailrc").write_text("another's")
                 threads = [server.begin_session() for _ in range(2)]
                 edits = f"sed -i -e s/^server.*/server=127.0.0.1/ -e s/^#.port.*/port={server.port}/"
                 lines = [line.replace("/usr/share/", f"{place}/usr/share/") for line in [*account, *tunnel, *fetch, *by_cron]]
-                shown = self.run_lines(lines, folder, home, programs_folder, EDITOR=edits)
+                shown = self.run_lines(["umask 002", *lines], folder, home, programs_folder, EDITOR=edits)
                 for thread in threads:
                     thread.join(programs.SECONDS)
                 self.assertIn("2 of 2 messages (0.0 kB) would be fetched, 0 deleted\n", shown)
@@ -658,8 +760,10 @@ class Readme(Copied):
     def check_home(self, home):
         settings = home / ".getmail"
         self.assertEqual(len(os.listdir(home / "Maildir/new")), len(self.MESSAGES))
-        modes = [stat.S_IMODE((settings / name).stat().st_mode) for name in ("getmailrc", "stunnel.conf", "tunnel")]
-        self.assertEqual(modes, [0o600, 0o600, 0o700])
+        modes = [stat.S_IMODE((settings / name).stat().st_mode) for name in ("getmailrc", "stunnel.conf", "tunnel", ".")]
+        self.assertEqual(modes, [0o600, 0o600, 0o700, 0o700])
+        maildir = home / "Maildir"
+        self.assertEqual({stat.S_IMODE(path.stat().st_mode) for path in (maildir, *maildir.iterdir())}, {0o700})
         self.assertEqual((settings / "getmailrc.~1~").read_text(), "another's")
         text = (settings / "stunnel.conf").read_text()
         self.assertIn("\nconnect = pop.example.net:995\n", text)
@@ -739,6 +843,41 @@ class Readme(Copied):
                     run = account.run()
                 process.terminate()
             self.assertIn(b"1 messages (21 bytes) retrieved", run.out)
+
+
+class Folders(unittest.TestCase):
+    """Where a group may write `~/.getmail`, one of it can take the tunnel's place: each text makes it its user's alone."""
+
+    def commands(self):
+        """Those of README, getmail(1) and stunnel.conf that make it."""
+        account = readme_blocks()[1]
+        page = re.findall(r"^\$ (.*)", (programs.ROOT / "man/getmail.1").read_text(), re.MULTILINE)
+        sample = (programs.ROOT / "examples/stunnel.conf").read_text()
+        found = [account[0], page[0] + "\n" + page[1], *(line for line in page[2:] if "mkdir" in line),
+                 *(text for text in re.findall("`([^`]*)`", sample) if "mkdir" in text)]
+        self.assertEqual([line.count("mkdir ") for line in found], [1] * 4)
+        return found
+
+    def modes(self, command, umask, before):
+        """What it leaves in a home that has these folders, which the group may write."""
+        with tempfile.TemporaryDirectory() as home:
+            for name in before:
+                (Path(home) / name).mkdir()
+                (Path(home) / name).chmod(0o775)
+            subprocess.run(["sh", "-euc", f"umask {umask:o}\n{command}"], check=True, timeout=programs.SECONDS,
+                           env=programs.environment(HOME=home))
+            return {str(path.relative_to(home)): stat.S_IMODE(path.stat().st_mode) for path in Path(home).rglob("*")}
+
+    def test_whatever_the_umask(self):
+        for command, umask in itertools.product(self.commands(), (0o002, 0, 0o022, 0o077)):
+            with self.subTest(command, umask=umask):
+                modes = self.modes(command, umask, [])
+                self.assertIn(".getmail", modes)
+                self.assertEqual(set(modes.values()), {0o700})
+                self.assertEqual(self.modes(command, umask, [".getmail"])[".getmail"], 0o700)
+                if ".getmail/tunnel" in modes:
+                    modes = self.modes(command, umask, [".getmail", ".getmail/tunnel"])
+                    self.assertEqual((modes[".getmail"], modes[".getmail/tunnel"]), (0o700, 0o700))
 
 
 class Regular(unittest.TestCase):

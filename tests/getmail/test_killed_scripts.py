@@ -82,9 +82,13 @@ class Killed(unittest.TestCase):
 class Carrying(Killed):
     """Then a run with each rc file, and the script again."""
 
+    # How often an mboxrd file had all mail twice.
+    twice = 0
+
     def go_on(self, home, found, number, order, words):
         """A message comes, the runs come, and the script again; and then another message."""
-        is_known, is_begun = home.record(home.new).exists(), (home.folder / f"carried-{home.old}-{home.new}").exists()
+        is_known = home.record(home.new).exists()
+        is_begun = is_known or any(home.folder.glob("carried-*")) or bool(home.names(home.new))
         if not is_begun and (order[0] == "new" or not words):
             # Nothing was done yet: to the new rc file all mail is new.
             return
@@ -94,17 +98,34 @@ class Carrying(Killed):
         # Without deletion both accounts fetch what comes between; and the new one all mail, until it has its record.
         found.add(number, "after the runs", home.faults(LATE), words and (order[0] != "new" or is_known))
         if home.is_mboxrd and not is_known and order[0] == "new":
-            return
+            return self.check_twice(home)
         run = run_here(self.script, *home.words)
         if (run.status, run.err) != (0, b""):
             found.told.append(f"killed after {number}: {run}")
             return
         found.add(number, "once carried", home.faults(LATE))
+        self.assertFalse(home.waiting.exists())
         home.server.messages.append(LATER)
         for rc in ("getmailrc", "new"):
             home.fetch(rc, "-d")
         found.add(number, "with later mail", home.faults(LATE, LATER))
         self.check_names(home)
+
+    def check_twice(self, home):
+        """The run has fetched all mail into an mboxrd file once more, as nothing can prevent: the script says so and changes
+        nothing. If it is asked for, it goes on, and nothing comes a third time."""
+        before, faults = home.tree(), home.faults(LATE)
+        run = run_here(self.script, *home.words)
+        self.assertEqual((run.status, run.out, home.tree()), (1, b"", before))
+        for part in (home.waiting, home.record(home.new), "nothing was changed"):
+            self.assertIn(str(part), run.err.decode())
+        run = run_here(self.script, *home.words, "--same-account")
+        self.assertEqual((run.status, run.err, home.waiting.exists()), (0, b"", False))
+        for rc in ("getmailrc", "new"):
+            home.fetch(rc, "-d")
+        self.assertEqual(home.faults(LATE), faults)
+        self.assertEqual((faults[0], len(faults[1])), ([], len(FIRST)))
+        self.twice += 1
 
     def check_names(self, home):
         """All messages that were carried have the new names, and the other account's are as they were."""
@@ -117,16 +138,19 @@ class Carrying(Killed):
 
 class Carried(Carrying):
     def play(self, kind, order, words, step=1, **changes):
-        found = Findings()
         with Home(kind) as home:
-            for number in range(1, MOST, step):
-                home.restore()
-                run = home.carry(**self.killed(number, **changes))
-                if run.status != KILLED:
-                    self.assertEqual(run.status, 0, run)
-                    return found
-                found.kills += 1
-                self.go_on(home, found, number, order, words)
+            return self.play_in(home, order, words, step, **changes)
+
+    def play_in(self, home, order, words, step, **changes):
+        found = Findings()
+        for number in range(1, MOST, step):
+            home.restore()
+            run = home.carry(**self.killed(number, **changes))
+            if run.status != KILLED:
+                self.assertEqual(run.status, 0, run)
+                return found
+            found.kills += 1
+            self.go_on(home, found, number, order, words)
         self.fail("it was never done")
 
     def test_a_maildir(self):
@@ -140,9 +164,23 @@ class Carried(Carrying):
         self.check("carried by links", found)
 
     def test_the_new_rc_file_first(self):
+        """Between the mark and the new record no call may be left out."""
         for kind in (Account, MboxAccount):
-            found = self.play(kind, ("new", "getmailrc"), ("-d",), 1 if WHOLE else 2)
+            found = self.play(kind, ("new", "getmailrc"), ("-d",))
             self.check(f"the new rc file first, {kind.__name__}", found)
+        self.assertGreater(self.twice, 3)
+
+    def test_the_new_rc_file_first_by_links(self):
+        found = self.play(MboxAccount, ("new", "getmailrc"), ("-d",), REFUSED_CALL="sparing-rename")
+        self.check("the new rc file first, by links", found)
+
+    def test_a_run_of_the_new_account_before_the_script(self):
+        """The rc file was changed first, and `--same-account` says so."""
+        with Home() as home:
+            home.fetch("new")
+            home.keep()
+            home.words.append("--same-account")
+            self.check("after a run of the new account", self.play_in(home, ("getmailrc", "new"), (), 1 if WHOLE else 3))
 
     def test_without_deletion(self):
         """What comes while both accounts fetch comes to both, until it is carried again."""
@@ -152,7 +190,7 @@ class Carried(Carrying):
     def test_what_is_left_beside_a_record(self):
         """A run of the account that fetches a message removes it once it is an hour old."""
         with Home() as home:
-            known = {*os.listdir(home.folder), home.record(home.new).name, f"carried-{home.old}-{home.new}",
+            known = {*os.listdir(home.folder), home.record(home.new).name, f"carried-{home.old}-{home.new}", home.waiting.name,
                      f"lock-{home.old}", f"lock-{home.new}"}
             rcs, removed = {home.old: "getmailrc", home.new: "new"}, Counter()
             for number in range(1, MOST):
@@ -179,20 +217,23 @@ class PowerLost(Carrying):
         watched, changes = self.watched(home.home, home.carry)
         seen = set()
         renamed = [(path, path.replace(home.old, home.new)) for path in watched.start if f"{home.old}." in path]
-        for _, image, _ in power.fronts(watched, changes, self.MOST, random.Random(1)):
+        waiting, record = (f".getmail/{path.name}" for path in (home.waiting, home.record(home.new)))
+        placed = next(number for number, change in enumerate(changes) if isinstance(change, power.Name) and change.path == record)
+        for count, image, _ in power.fronts(watched, changes, self.MOST, random.Random(1)):
             state = tuple(sorted(image.items()))
-            if state not in seen and all((old in image) != (new in image) for old, new in renamed):
+            pairs = [*renamed, (waiting, record)] if count > placed else renamed
+            if state not in seen and all((old in image) != (new in image) for old, new in pairs):
                 seen.add(state)
                 yield image
 
-    def play(self, kind):
+    def play(self, kind, order=("getmailrc", "new")):
         found = Findings()
         with Home(kind) as home:
             for image in self.states(home):
                 home.restore()
                 power.build(home.home, image)
                 found.kills += 1
-                self.go_on(home, found, found.kills, ("getmailrc", "new"), ("-d",))
+                self.go_on(home, found, found.kills, order, ("-d",))
         return found
 
     def test_a_maildir(self):
@@ -200,6 +241,11 @@ class PowerLost(Carrying):
 
     def test_an_mboxrd_file(self):
         self.check("power lost, over an mboxrd file", self.play(MboxAccount))
+
+    def test_the_new_rc_file_first(self):
+        """No mark is on the disk without the record by which it is known that all mail came once more."""
+        self.check("power lost, the new rc file first", self.play(MboxAccount, ("new", "getmailrc")))
+        self.assertGreater(self.twice, 3)
 
     def test_a_message_that_was_not_flushed(self):
         """No record says that it was delivered before its file and its name are on the disk."""

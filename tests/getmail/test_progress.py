@@ -13,12 +13,11 @@ import unittest
 from getmail import terminal
 from getmail.account import Account
 from getmail.server import Server, lines_of
-from getmail.terminal import TEXT, screen_of, told_in
+from getmail.terminal import ERASED, LINE, TEXT, screen_of, told_in
 from harness import programs
 
 THREE = [(b"a", b"one\n"), (b"b", b"a line of a longer message\n" * 20_000), (b"c", b"three\n")]
 STEP = 65_536
-WIDTH = 48
 KILOBYTE = 1_000
 
 
@@ -38,10 +37,10 @@ class Progress(unittest.TestCase):
 
     def told(self, shown):
         """The message, the total, the octets and the size of each line that was shown, in order."""
-        rows = [row.rstrip() for row in shown.split(b"\r")]
-        self.assertTrue(all(len(row) <= WIDTH for row in rows), rows)
-        self.assertEqual([row for row in rows if row and not TEXT.fullmatch(row)], [])
-        return [told_in(TEXT.fullmatch(row)) for row in rows if row]
+        self.assertEqual(LINE.sub(b"", shown).replace(ERASED, b""), b"")
+        rows = LINE.findall(shown)
+        self.assertEqual([row for row in rows if not TEXT.fullmatch(row)], [])
+        return [told_in(TEXT.fullmatch(row)) for row in rows]
 
     def test_the_line_follows_the_messages_and_is_gone(self):
         status, out, shown = self.run_on_terminal()
@@ -57,6 +56,16 @@ class Progress(unittest.TestCase):
         self.assertTrue(length - 2 * STEP <= octets[-1] <= length, octets)
         self.assertTrue(out.endswith(b"3 messages (540010 bytes) retrieved, 0 skipped, 0 deleted\n"), out)
 
+    def test_a_narrow_terminal(self):
+        """The line is in one row at each moment, and its front is shown."""
+        _, _, shown = self.run_on_terminal()
+        ends = [place for place, octet in enumerate(shown) if octet == ord("\r")]
+        for columns, front in ((30, b"message 2 of 3, 0.0 of 560 kB"), (20, b"message 2 of 3, 0.0")):
+            screens = [screen_of(shown[:end], columns) for end in ends]
+            self.assertEqual([screen for screen in screens if len(screen) > 1], [])
+            self.assertIn([front], screens)
+            self.assertEqual(screen_of(shown, columns), [b""])
+
     def test_the_units(self):
         """From a million octets on a size is in megabytes."""
         for length, words in ((2, b"0.0 of 0.0 kB"), (9_999, b"0.0 of 9.9 kB"), (10_000, b"0.0 of 10 kB"),
@@ -64,7 +73,7 @@ class Progress(unittest.TestCase):
             with self.subTest(length):
                 self.server.messages = [(b"%d" % length, b"x" * (length - 2) + b"\n")]
                 _, _, shown = self.run_on_terminal()
-                self.assertTrue(shown.startswith(b"\rmessage 1 of 1, %s  " % words), shown[:60])
+                self.assertEqual(LINE.match(shown)[1], b"message 1 of 1, " + words)
 
     def test_the_report_stands_alone_on_the_terminal(self):
         status, _, shown = self.run_on_terminal(both=True)
@@ -105,8 +114,7 @@ class Progress(unittest.TestCase):
         self.server.messages = [(b"%d" % number, b"") for number in range(2_500)]
         self.account.record.write_bytes(b"getmail-seen 2\n" + b"".join(b"%d 5 1\n" % number for number in range(2_500)))
         status, _, shown = self.run_on_terminal()
-        rows = dict.fromkeys(row.rstrip() for row in shown.split(b"\r"))
-        self.assertEqual([row for row in rows if row],
+        self.assertEqual(list(dict.fromkeys(LINE.findall(shown))),
                          [b"listed %d of 2500 messages" % number for number in (0, 500, 1000, 1500, 2000, 2500)])
         self.assertEqual((status, screen_of(shown)), (0, [b""]))
         status, _, shown = self.run_on_terminal("--pretend", octets=20_000, both=True)
@@ -136,6 +144,8 @@ class Progress(unittest.TestCase):
         thread.join(programs.SECONDS)
         self.assertEqual(process.returncode, -signal.SIGINT)
         self.assertTrue(screen_of(shown)[-1].startswith(b"message 2 of 3, "), screen_of(shown))
+        # The terminal wraps lines again.
+        self.assertTrue(shown.endswith(b"\x1b[?7h"), shown[-20:])
 
     def test_nothing_is_shown_in_a_pipe_or_a_file(self):
         thread = self.server.begin_session()

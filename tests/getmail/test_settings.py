@@ -204,6 +204,7 @@ class RcFile(Sessions):
         writer.join(programs.SECONDS)
         return answer
 
+    @unittest.skipIf(os.geteuid() == 0, "the superuser's run reads no pipe")
     def test_an_rc_file_that_comes_in_pieces(self):
         text = self.account.rcfile.read_bytes() + b"delete = true\n"
         half = text.index(b"[destination]") + 5

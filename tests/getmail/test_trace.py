@@ -3,14 +3,16 @@
 import os
 import shutil
 import subprocess
+import tempfile
 import unittest
 from contextlib import contextmanager
+from pathlib import Path
 
 from getmail.account import Account
 from getmail.mbox_account import MboxAccount
 from getmail.server import Server
 from getmail.test_why import MAILDIR
-from harness import programs, refused_steps
+from harness import preload, programs, refused_steps
 from harness.kernel import LOOPBACK
 from harness.mboxrd import entries
 
@@ -169,7 +171,7 @@ class Session(unittest.TestCase):
         self.assertIn(f"trace: open {self.account.record}: Permission denied", lines_of(self.session("--trace")))
 
     def test_each_call_that_is_refused(self):
-        """The first step is the connection, without which the server has no session."""
+        """But those up to the connection, without which the server has no session: the superuser's run looks at its paths."""
         def into_a_maildir(**environment):
             with Account(self.server.port) as account, self.server_thread():
                 return account.run("-q", "--trace", STEP_BELOW=str(account.maildir), **environment).err
@@ -181,7 +183,10 @@ class Session(unittest.TestCase):
                 return account.run("-q", "--trace", STEP_BELOW=str(account.mbox), **environment).err
 
         for run in into_a_maildir, into_an_mbox_with_an_open_entry:
-            refused_steps.check_each_is_traced(self, run, first=2, link=f"{LOOPBACK}:{self.server.port}")
+            with tempfile.NamedTemporaryFile() as note, preload.library("refuse_step") as refuse_step:
+                run(LD_PRELOAD=str(refuse_step), STEP_NOTE=note.name)
+                steps = [line.split("\t")[0] for line in Path(note.name).read_text().splitlines()]
+            refused_steps.check_each_is_traced(self, run, first=steps.index("connect") + 2, link=f"{LOOPBACK}:{self.server.port}")
 
     def test_a_path_is_escaped(self):
         name = "\x1b[2J.rc"

@@ -2,55 +2,25 @@
 
 import os
 import resource
+import shutil
 import stat
 import threading
 import time
 import unittest
+from pathlib import Path
 
 from getmail import terminal
 from getmail.account import Account
-from getmail.server import Server
 from getmail.shared_server import SharedServer
+from getmail.unattended import NOBODY, START, TWO, UnattendedRuns
 from harness import growths, preload, programs
-from harness.kernel import LOOPBACK
 
-TWO = [(b"a", b"one\n"), (b"b", b"two\n")]
-START = 1_700_000_000
 DATE = "Tue, 14 Nov 2023 22:13:20 GMT"
 HOUR, DAY = 3_600, 86_400
+EACH = "each run tells this, since the folder of its record cannot be written"
 
 
-class Unattended(unittest.TestCase):
-    def setUp(self):
-        self.server = self.enterContext(Server(TWO))
-        self.account = self.enterContext(Account(self.server.port))
-        self.clock = self.enterContext(preload.library("clock"))
-        self.now = START
-
-    def run_getmail(self, *words, **changes):
-        path = self.account.home / "clock"
-        path.write_text(str(self.now))
-        preloaded = " ".join(filter(None, (str(self.clock), changes.pop("LD_PRELOAD", ""))))
-        return self.account.run("--unattended", *words, LD_PRELOAD=preloaded, CLOCK=str(path), **changes)
-
-    def session(self, *words, seconds=600, **changes):
-        """A run with a session, so many seconds after the last one; its lines."""
-        self.now += seconds
-        thread = self.server.begin_session()
-        run = self.run_getmail(*words, **changes)
-        thread.join(programs.SECONDS)
-        self.assertEqual(run.out, b"")
-        return run.status, run.err.decode().splitlines()
-
-    def line(self, reason):
-        return f"getmail: u@{LOOPBACK}:{self.server.port}: {reason}"
-
-    def told(self):
-        return [path for path in self.account.folder.iterdir() if path.name.startswith("told-")]
-
-    def refuse(self, *commands):
-        self.server.refuses = commands
-
+class Unattended(UnattendedRuns):
     def test_a_good_run_is_silent(self):
         """And nothing is kept of it."""
         for _ in range(2):
@@ -107,6 +77,19 @@ class Unattended(unittest.TestCase):
         self.assertEqual(len(self.session("-r", "other")[1]), 2)
         self.assertEqual(len(self.session()[1]), 1)
         self.assertEqual(len(self.told()), 2)
+
+    def test_the_same_fault_of_another_number(self):
+        """A message's number changes as others leave the server; the line has the one of today."""
+        large = [(b"l%d" % number, b"x" * 200 + b"\n") for number in range(6)]
+        for word, *words in ("RETR",), ("DELE", "-d"):
+            with self.subTest(word), Account(self.server.port, "max_message_size = 100\n") as self.account:
+                for left, seconds in ((6, 600), (5, 600), (4, 600), (3, DAY)):
+                    self.server.messages = [*large[:left - 1], TWO[0]]
+                    self.refuse(f"{word} {left}")
+                    status, lines = self.session(*words, seconds=seconds)
+                    self.assertEqual((status, lines[:1]), (1, [f"getmail: server refused {word} {left}"] if left in (6, 3) else []))
+                self.refuse("LIST")
+                self.assertEqual(len(self.session(*words)[1]), 2)
 
     def test_the_same_fault_whatever_the_server_says(self):
         self.server._answer = lambda command: b"-ERR try at %d\r\n" % self.now
@@ -173,6 +156,31 @@ class Unattended(unittest.TestCase):
         self.assertEqual(len(self.session()[1]), 1)
         self.assertEqual(self.session(), (0, []))
 
+    def test_a_large_message_that_is_deleted(self):
+        """It was delivered before, and doesn't stay on the server."""
+        self.server.messages = [(b"l", b"a long message\n"), *TWO]
+        self.session()
+        options = "max_message_size = 5\ndelete = true\n"
+        self.account.rcfile.write_text(self.account.rcfile.read_text().replace("read_all = false", "read_all = true") + options)
+        self.assertEqual(self.session(), (0, []))
+        self.assertEqual(self.server.messages, [])
+
+    def test_large_messages_where_each_session_is_cut(self):
+        self.account.rcfile.write_bytes(self.account.rcfile.read_bytes() + b"max_message_size = 5\n")
+        self.server.messages = [(b"l", b"a long message\n"), *TWO]
+        self.refuse("RETR 3")
+        status, lines = self.session()
+        self.assertEqual((status, lines[0], lines[2:]), (1, "getmail: server refused RETR 3", [self.too_large(1, 16)]))
+        self.assertEqual(self.session(), (1, []))
+
+    def test_one_message_is_left(self):
+        """It is one, not several."""
+        self.account.rcfile.write_bytes(self.account.rcfile.read_bytes() + b"max_messages_per_session = 1\n")
+        self.server.messages = [(b"%d" % number, b"one\n") for number in range(26)]
+        told = [self.session(seconds=HOUR)[1] for _ in range(25)]
+        self.assertEqual(told[:24], [[]] * 24)
+        self.assertTrue(told[24][0].endswith(" reached max_messages_per_session: 1 message is left"), told[24])
+
     def test_the_limit_on_the_number_of_messages(self):
         """It is news if each run of a day reached it."""
         self.account.rcfile.write_bytes(self.account.rcfile.read_bytes() + b"max_messages_per_session = 1\n")
@@ -184,7 +192,8 @@ class Unattended(unittest.TestCase):
         self.server.messages = []
         self.assertEqual(self.session(seconds=HOUR), (0, []))
         self.server.messages = [(b"n%d" % number, b"one\n") for number in range(60)]
-        self.assertEqual([self.session(seconds=HOUR)[1] for _ in range(24)], [[]] * 24)
+        new_ids = "warning: none of the listed messages was in the record, others were: if their ids are new, all mail comes again"
+        self.assertEqual([self.session(seconds=HOUR)[1] for _ in range(24)], [[self.line(new_ids)], *[[]] * 23])
 
     def test_folders_that_are_named_like_marks(self):
         """A path is noted up to the mark of the process alone."""
@@ -246,7 +255,8 @@ class Unattended(unittest.TestCase):
         resource.setrlimit(resource.RLIMIT_FSIZE, (octets, hard))
         thread = self.server.begin_session()
         try:
-            process = self.account.start("--unattended", restore_signals=False)
+            process = self.account.start("--unattended", restore_signals=False, LD_PRELOAD=str(self.other_user),
+                                         OTHER_USER=str(NOBODY))
         finally:
             resource.setrlimit(resource.RLIMIT_FSIZE, (hard, hard))
         _, err = process.communicate(timeout=programs.SECONDS)
@@ -265,7 +275,7 @@ class Unattended(unittest.TestCase):
         self.session()
         path, = self.told()
         before = path.read_bytes()
-        for command, lines in (("LIST", 2), ("LIST", 2), ("UIDL", 3), ("UIDL", 3)):
+        for command, lines in (("LIST", 3), ("LIST", 3), ("UIDL", 4), ("UIDL", 4)):
             self.refuse(command)
             self.assertEqual(self.session_with_room(10), (1, lines))
             self.assertEqual((path.read_bytes(), self.told()), (before, [path]))
@@ -316,7 +326,35 @@ class Unattended(unittest.TestCase):
         path.unlink()
         path.mkdir()
         for _ in range(2):
-            self.assertEqual(len(self.session()[1]), 2)
+            status, lines = self.session()
+            self.assertEqual((status, lines[2:]), (1, [self.line(EACH)]))
+
+    def test_a_folder_of_the_user(self):
+        """What was told is kept in /run/user if DIR can't be written, until it can; if that folder is nobody else's."""
+        if os.geteuid() != 0:
+            self.skipTest("only root makes a folder in /run/user")
+        folder = Path("/run/user") / str(NOBODY + os.getpid())
+        self.addCleanup(shutil.rmtree, folder, ignore_errors=True)
+        self.refuse("UIDL")
+        self.session()
+        path, = self.told()
+        before = path.read_bytes()
+        path.unlink()
+        path.mkdir()
+        changes = {"OTHER_USER": folder.name}
+        self.assertEqual(len(self.session(**changes)[1]), 3)
+        folder.mkdir(parents=True)
+        for mode, owner, lines in ((0o700, 0, 3), (0o750, NOBODY + os.getpid(), 3), (0o700, NOBODY + os.getpid(), 2)):
+            os.chown(folder, owner, owner)
+            folder.chmod(mode)
+            self.assertEqual(len(self.session(**changes)[1]), lines)
+        self.assertEqual([kept.name for kept in folder.iterdir()], [f"getmail-{path.name}"])
+        self.assertEqual(self.session(**changes), (1, []))
+        path.rmdir()
+        path.write_bytes(before)
+        self.assertEqual(self.session(**changes), (1, []))
+        self.assertEqual(list(folder.iterdir()), [])
+        self.assertEqual(self.session(), (1, []))
 
     def test_what_cannot_be_written_is_told_later(self):
         self.refuse("UIDL")
@@ -410,10 +448,13 @@ class Beside(unittest.TestCase):
         self.first.communicate(timeout=programs.SECONDS)
 
     def test_another_run_is_nothing_new(self):
-        """Until it has been at work for an hour."""
+        """Until it has been at work for an hour: by when its file was changed, not by when it was read."""
         self.assertEqual(self.account.run("--unattended"), programs.SILENT)
-        then = time.time() - HOUR - 1
-        os.utime(self.account.lock, (then, then))
+        now = time.time()
+        then = now - HOUR - 1
+        os.utime(self.account.lock, (then, now))
+        self.assertEqual(self.account.run("--unattended"), programs.SILENT)
+        os.utime(self.account.lock, (now, then))
         run = self.account.run("--unattended")
         self.assertEqual((run.status, run.err.splitlines()[0]), (1, b"getmail: another getmail is at work for this account"))
         self.assertEqual(self.account.run("--unattended"), programs.Run(1, b"", b""))
@@ -436,9 +477,11 @@ class Beside(unittest.TestCase):
         path, = (path for path in self.account.folder.iterdir() if path.name.startswith("told-"))
         path.unlink()
         path.mkdir()
-        line = b"getmail: another getmail is at work for this account\n"
-        for _ in range(2):
-            self.assertEqual(self.account.run("--unattended"), programs.Run(0, b"", line))
+        lines = f"getmail: another getmail is at work for this account\ngetmail: {self.account.name_in_lines}: {EACH}\n"
+        with preload.library("other_user") as library:
+            for _ in range(2):
+                self.assertEqual(self.account.run("--unattended", LD_PRELOAD=str(library), OTHER_USER=str(NOBODY)),
+                                 programs.Run(0, b"", lines.encode()))
 
 
 class TwoAtOnce(unittest.TestCase):

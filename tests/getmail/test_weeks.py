@@ -13,6 +13,7 @@ import unittest
 from getmail.account import RC, Account
 from getmail.server import Server, size_of
 from getmail.told import DAY, HOUR, Memory, Said
+from getmail.unattended import NOBODY
 from harness import preload, programs
 from harness.kernel import LOOPBACK
 from harness.maildir import make_maildir
@@ -91,6 +92,7 @@ FAULTS = {
 class Weeks(unittest.TestCase):
     def setUp(self):
         self.clock = self.enterContext(preload.library("clock"))
+        self.other_user = self.enterContext(preload.library("other_user"))
 
     @contextlib.contextmanager
     def boxes(self, count):
@@ -107,8 +109,8 @@ class Weeks(unittest.TestCase):
         _, hard = resource.getrlimit(resource.RLIMIT_FSIZE)
         resource.setrlimit(resource.RLIMIT_FSIZE, (hard if room is None else room, hard))
         try:
-            process = box.account.start("--unattended", "-r", box.name, restore_signals=False, LD_PRELOAD=str(self.clock),
-                                        CLOCK=str(self.path))
+            process = box.account.start("--unattended", "-r", box.name, restore_signals=False, CLOCK=str(self.path),
+                                        LD_PRELOAD=f"{self.clock} {self.other_user}", OTHER_USER=str(NOBODY))
         finally:
             resource.setrlimit(resource.RLIMIT_FSIZE, (hard, hard))
         out, err = process.communicate(timeout=programs.SECONDS)
@@ -136,7 +138,8 @@ class Weeks(unittest.TestCase):
         name = str(box.rcfile)
         saved, box.memory.name = box.memory.name, name
         self.check(box, Said(fault=("getmail: retriever.port has a bad value", f"getmail: {name}: line 4: port: 1 to 65535; "
-                                    "a comment has a line of its own")), connects=False, is_kept=is_kept)
+                                    "a comment has a line of its own, and a line after a blank goes on with the value before it")),
+                   connects=False, is_kept=is_kept)
         box.memory.name = saved
         box.write(box.good)
 
@@ -202,6 +205,31 @@ class Weeks(unittest.TestCase):
                 box.server.messages = [(b"%d" % number, b"x" * (200 + number) + b"\n") for number in range(count)]
                 self.now = START + step * HOUR
                 self.good(box)
+
+    def test_a_month(self):
+        """Three accounts, of which one has a server that flaps for a week, one a message that is refused for six days while
+        older ones leave, and one messages over the limit and a full disk for a day: their user gets few mails of it."""
+        with self.boxes(3) as boxes:
+            for box in boxes:
+                box.write(box.good.replace(OPTIONS, "max_message_size = 5000\n"))
+            flapping, moving, large = boxes
+            moving.server.messages = [(b"old-%d" % number, b"x\n") for number in range(200)]
+            mails = []
+            for step in range(30 * 12):
+                self.now = START + step * 2 * HOUR
+                day, begins = step // 12, step % 12 == 0
+                flapping.server.refuses = (f"USER {flapping.name}",) if day in range(3, 10) and step % 2 else ()
+                if day == 5 and begins:
+                    moving.add(b"y\n")
+                if day in range(5, 11):
+                    del moving.server.messages[0]
+                moving.server.refuses = tuple(f"RETR {number}" for number in range(1, 202)) if day in range(5, 11) else ()
+                if begins and day in (2, 14, 20):
+                    large.add(b"z" * (6000 if day != 20 else 4000) + b"\n")
+                errors = [self.run_at(box, room=2000 if box is large and day == 20 else None) for box in boxes]
+                mails += [err.decode() for err in errors if err]
+        self.assertLessEqual(len(mails), 45, "".join(mails))
+        self.assertGreater(len(mails), 20)
 
     def random_week(self, seed):
         chance = random.Random(seed)

@@ -6,7 +6,7 @@ import shutil
 import unittest
 
 from getmail import terminal
-from getmail.account import Account
+from getmail.account import RC, Account
 from getmail.mbox_account import MboxAccount
 from getmail.server import Server
 from getmail.shared_server import SharedServer
@@ -15,8 +15,11 @@ from harness.kernel import LOOPBACK
 
 TWO = [(b"a", b"one\n"), (b"b", b"two\n")]
 NO_MEMBER = "No such file or directory"
+OCTET = ": 1 octet, no line with CR LF"
+GOES_ON = "a line after a blank goes on with the value before it"
+OWN_LINE = f"a comment has a line of its own, and {GOES_ON}"
 PASSWORD = "username or password is wrong; in the rc file a comment has a line of its own"
-MAILDIR = "mkdir -p makes it: a Maildir is a folder with the folders cur, new and tmp"
+MAILDIR = "is its disk mounted? else mkdir -p makes it: a Maildir is a folder with the folders cur, new and tmp"
 TUNNEL = "the tunnel's own log says why: journalctl --user -u getmail-tunnel, or the file that stunnel.conf names"
 START = "is the tunnel started? systemctl --user start getmail-tunnel.socket, or the command in stunnel.conf"
 
@@ -160,7 +163,7 @@ class OfMboxes(Sessions):
         self.account.mbox.unlink()
         for words in ((), ("--pretend",)):
             self.check_told("destination missing", f"{self.account.mbox}: {NO_MEMBER}", *words,
-                            hint="touch makes it: an empty file is an mbox file")
+                            hint="is its disk mounted? else touch makes it: an empty file is an mbox file")
 
     def test_a_reason_is_that_of_the_fault(self):
         """Before the first session there is no record, which is no reason for anything."""
@@ -241,17 +244,25 @@ class BeforeSessions(unittest.TestCase):
                  "line 2: type: SimplePOP3Retriever; TLS needs a tunnel")):
             with self.subTest(new), Account(1) as self.account:
                 self.put(old, new)
-                self.check_told(2, fault, f"{self.account.rcfile}: {told}; a comment has a line of its own")
+                self.check_told(2, fault, f"{self.account.rcfile}: {told}; {OWN_LINE}")
 
     def test_keys_that_are_missing(self):
-        """The line of a key of one letter more, less or other is named; else the file is."""
+        """The line of a key of one letter more, less or other is named, or what another program calls it."""
         meant = "line 6: is password meant?"
+        none = f"no line of its section begins with password; {GOES_ON}"
         for new, told in (("pasword", meant), ("Passwords", meant), ("pass-word", meant), ("passwort", meant),
-                          ("xpassword", meant), ("asswort", None), ("secret", None), ("passwrd1", None), ("passwordxy", None)):
+                          ("xpassword", meant), ("asswort", none), ("secret", none), ("passwrd1", none), ("passwordxy", none),
+                          ("passwd", "the key passwd is not known: is password meant?"),
+                          ("Password_Command", "the key password_command is not known: the password itself is in the rc file, "
+                           "as password = ..")):
             with self.subTest(new), Account(1) as self.account:
                 self.put(b"password", new.encode())
-                rcfile = str(self.account.rcfile)
-                self.check_told(2, "retriever.password missing", f"{rcfile}: {told}" if told else rcfile)
+                self.check_told(2, "retriever.password missing", f"{self.account.rcfile}: {told}")
+
+    def test_a_key_that_is_indented(self):
+        self.put(b"password", b"  password")
+        self.check_told(2, "retriever.username has a bad value",
+                        f"{self.account.rcfile}: line 5: username: one line of 1 to 500 octets, with no CR and no NUL; {OWN_LINE}")
 
     def test_a_home_that_is_not_set(self):
         for words in ((), ("-g", self.account.folder)):
@@ -260,8 +271,11 @@ class BeforeSessions(unittest.TestCase):
             self.assertEqual((run.status, run.err.decode()), (2, f"getmail: HOME is not set\ngetmail: {told}\n"))
 
     def test_a_section_that_is_missing(self):
-        self.put(b"[destination]", b"[Destination]")
-        self.check_told(2, "section [destination] missing", str(self.account.rcfile))
+        told = "the names of sections are in small letters: [retriever], [destination], [options]"
+        for section in "retriever", "destination":
+            with self.subTest(section), Account(1) as self.account:
+                self.put(f"[{section}]".encode(), f"[{section.capitalize()}]".encode())
+                self.check_told(2, f"section [{section}] missing", f"{self.account.rcfile}: {told}")
 
     def test_a_port_for_tls(self):
         for port in (995, 993):
@@ -277,7 +291,7 @@ class BeforeSessions(unittest.TestCase):
         self.put(b"port = 1", b"port = 0")
         self.put(b"password = sesame\n", b"password = sesame\n  port = hidden\n\tport = hidden\n")
         self.check_told(2, "retriever.port has a bad value",
-                        f"{self.account.rcfile}: line 4: port: 1 to 65535; a comment has a line of its own")
+                        f"{self.account.rcfile}: line 4: port: 1 to 65535; {OWN_LINE}")
 
     def test_lines_of_an_rc_file(self):
         self.put(b"password = sesame", b"password p")
@@ -287,11 +301,16 @@ class BeforeSessions(unittest.TestCase):
         rcfile.write_bytes(b"\xef\xbb\xbf[retriever]\n")
         self.check_told(2, "rc file line 1 not understood",
                         f"{rcfile}: the file begins with a byte order mark: save it without one")
+        text = RC.format(server=LOOPBACK, port=1).replace("sesame", "gr\u00fcn")
+        for coding, line in (("latin-1", 6), ("utf-16", 1)):
+            rcfile.write_bytes(text.encode(coding))
+            self.check_told(2, f"rc file line {line} not understood", f"{rcfile}: the file is not in UTF-8: save it as UTF-8")
 
     def test_an_rc_file_that_others_may_read(self):
         warning = (f"getmail: u@{LOOPBACK}:1: warning: others than its owner may read or write {self.account.rcfile}: "
                    "chmod 600 ends that\n")
-        for mode in (0o604, 0o602, 0o640, 0o620):
+        # (the superuser's run refuses one that others may write)
+        for mode in (0o604, 0o640) if os.geteuid() == 0 else (0o604, 0o602, 0o640, 0o620):
             self.account.rcfile.chmod(mode)
             run = self.account.run("--why")
             self.assertTrue(run.err.decode().startswith(warning), (mode, run.err))
@@ -379,8 +398,8 @@ class Table(unittest.TestCase):
     def test_a_connection_that_ends(self):
         """Before the greeting, and from a server that is near, the tunnel has ended it."""
         for octets, *told in ((0, "it ended before the greeting", TUNNEL),
-                              (12, "it ended in the reply to USER u"), (17, "it ended in the reply to PASS *"),
-                              (22, "it ended in the reply to STAT")):
+                              (12, f"it ended in the reply to USER u{OCTET}"), (17, f"it ended in the reply to PASS *{OCTET}"),
+                              (22, f"it ended in the reply to STAT{OCTET}")):
             server = Server(TWO)
             self.addCleanup(server.close)
             with self.subTest(octets), Account(server.port) as account:
@@ -429,7 +448,8 @@ class Table(unittest.TestCase):
 
     def test_a_record_that_is_not_understood(self):
         self.account.record.write_bytes(b"getmail-seen 2\nx\n")
-        self.check_told("seen file not understood at line 2", f"{self.account.record}: a record has no such line")
+        self.check_told("seen file not understood at line 2", f"{self.account.record}: a record has no such line",
+                        "a run makes a new one if it is moved away: what the Maildir holds isn't stored again, all else is")
 
     def test_a_file_that_is_no_mbox(self):
         with MboxAccount(self.server.port) as account:

@@ -3,11 +3,15 @@
 A run is what it met; the model answers the octets that it writes to standard error. Times are seconds since 1970.
 """
 
+import re
 from dataclasses import dataclass, field
 from email.utils import formatdate
 
 HOUR, DAY, WEEK = 3_600, 86_400, 604_800
 FAULTS, NOTICES, NAMES = 16, 1_000, 1_000
+
+# The number of a message is no part of what makes two faults the same.
+NUMBER = re.compile(r"(?<=refused RETR )\d+$|(?<=refused DELE )\d+$")
 
 
 @dataclass
@@ -64,7 +68,10 @@ class Memory:
             return told
         changed = self.state() != Memory.state_of(before)
         vars(self).update(before)
-        return told + rest if changed else told
+        if not changed:
+            return told
+        each = [self.line("each run tells this, since the folder of its record cannot be written")]
+        return told + rest + each if told or rest else []
 
     def state(self):
         return self.state_of(vars(self))
@@ -77,7 +84,7 @@ class Memory:
     def take_fault(self, said, now, told, rest):
         if not said.fault:
             return
-        key = (said.fault[0], said.place)
+        key = (NUMBER.sub("", said.fault[0]), said.place)
         since, last, runs = self.faults.get(key, (now, None, 0))
         if last is not None and last > now:
             since, last, runs = now, None, 0
@@ -120,7 +127,9 @@ class Memory:
                                       "it stays on the server"))
         unnamed = len(ids) - len(self.named)
         if unnamed > self.unnamed:
-            told.append(self.line(f"{unnamed} more messages are larger than max_message_size: they stay on the server"))
+            more = "message is larger than max_message_size: it stays" if unnamed == 1 else \
+                "messages are larger than max_message_size: they stay"
+            told.append(self.line(f"{unnamed} more {more} on the server"))
         self.unnamed = unnamed
         if not said.past_limit:
             self.limited = None
@@ -129,7 +138,7 @@ class Memory:
             self.limited = now
         if now - self.limited >= DAY:
             told.append(self.line(f"each run since {date(self.limited)} reached max_messages_per_session: "
-                                  f"{said.past_limit} messages are left"))
+                                  f"{'1 message is' if said.past_limit == 1 else f'{said.past_limit} messages are'} left"))
             self.limited = now
 
     def end(self, now, told):

@@ -1,7 +1,9 @@
 """What the kernel says about a running program, so that no connection is spent on finding it out, and no time."""
 
 import contextlib
+import ctypes
 import fcntl
+import os
 import socket
 import sys
 import termios
@@ -12,6 +14,13 @@ LOOPBACK = "127.0.0.1"
 SECONDS_TO_LISTEN = 60
 _LOOPBACK_IN_TABLE = "0100007F"
 _LISTENING = "0A"
+_RENAMEAT2 = ctypes.CDLL(None).renameat2
+_AT_FDCWD, _RENAME_EXCHANGE = -100, 2
+
+
+def exchange(one, other):
+    """Exchanges two names at once. If one isn't there, both are left alone."""
+    _RENAMEAT2(_AT_FDCWD, os.fsencode(one), _AT_FDCWD, os.fsencode(other), _RENAME_EXCHANGE)
 
 
 def free_port(ports=(0,)):

@@ -83,8 +83,9 @@ module _ {C M O : Type 0} {calls : CallGhosts C M O} {made : MadeGhosts M} {open
     unflushed_of (Mboxrd mbox) seen_file = option_or (unflushed_path mbox.folder.handles)
         (unflushed_path seen_file.folder.handles)
 
-    -- this was noticed of a run's devices; of a folder whose names weren't flushed only if reasons are asked for
-    pub record IsNoticed (says_why is_idle : Bool)
+    -- this was noticed of a run's devices; of a folder whose names weren't flushed and of new ids only if reasons are
+    -- asked for
+    pub record IsNoticed (says_why : Bool) (SaysNew : Type 0) (is_idle : Bool)
         (store : Store (FolderMaildir (CallsFolders (CallsShared R C M O calls made open') S F shared drafts mails) N)
         (HostFile (CallsFolder C M O calls made open') state))
         (seen_file : HostFile (CallsFolder C M O calls made open') state) (noticed : Noticed) : Type 0 where
@@ -92,3 +93,4 @@ module _ {C M O : Type 0} {calls : CallGhosts C M O} {made : MadeGhosts M} {open
       pub obstructions : noticed.obstructions.now ≡ obstructions_of store
       pub refusal : is_name_taken store ≡ false → noticed.refusal ≡ None
       pub unflushed : option_copied noticed.unflushed ≡ (if says_why then unflushed_of store seen_file else None)
+      pub new_ids : noticed.has_new_ids ≡ true → (says_why ≡ true) × SaysNew

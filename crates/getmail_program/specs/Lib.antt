@@ -2,8 +2,10 @@ pub mod Devices
 pub mod Fetching
 pub mod Findings
 pub mod Holding
+pub mod NewIds
 pub mod News
 pub mod Noticing
+pub mod OwnPaths
 pub mod Reasons
 pub mod Rehearsal
 pub mod Starting

@@ -2,12 +2,12 @@
 use Rattle.std.specs.{
   Prelude.{◌≡◌, ◌⊎◌, ◌≤◌, ◌&&◌, ◌||◌, ◌==◌, ℕ, Bool, true, false, not, List, [], ◌∷◌, ◌++◌, Option, None, Some},
   Prelude.{Result, Ok, Err, Vec, bytes_eq, codes, drop, filter},
-  Prelude.{find, flat_map, is_some, length, map, max, option_map, if◌then◌else◌},
+  Prelude.{find, flat_map, is_some, length, map, max, nat_eq, option_map, take, if◌then◌else◌},
   Fmt.decimal,
   Fs.{IsFile, file_type},
-  List.before_first,
+  List.{before_first, starts_with},
   Option.option_map_or,
-  Str.is_utf8,
+  Str.{is_utf8, Pattern.{RFindsChar, SplitsAroundMatch}},
   declared.{alloc.AllocError.AllocError, fs.attrs.Metadata.Metadata, io.Error.Error, time.SystemTime.SystemTime},
 }
 use Rattle.httpdate.specs.{Date.{date_text, unix_secs}, declared.date.HttpDate.HttpDate}
@@ -38,9 +38,16 @@ use Rattle.getmail_program.specs.declared.{news.{Decided.Decided, RunSaid.RunSai
 abbrev pub utf8_in : List ℕ → List ℕ
 utf8_in octets = if is_utf8 octets then octets else []
 
--- a fault is known by its line, without the lines of its reason, and by the path that it is about
+-- the line of a refused RETR or DELE without the number of the message, which changes as mail leaves the server
+abbrev pub without_number : List ℕ → List ℕ
+without_number line =
+    if starts_with nat_eq line (codes "getmail: server refused RETR ")
+    || starts_with nat_eq line (codes "getmail: server refused DELE ") then take 29 line else line
+
+-- a fault is known by that line, without the lines of its reason, and by the path that it is about
 abbrev pub fault_key : Part → List ℕ
-fault_key part = digest_text (utf8_in (before_first is_line_feed part.text.items)) (utf8_in part.place.items)
+fault_key part =
+    digest_text (utf8_in (without_number (before_first is_line_feed part.text.items))) (utf8_in part.place.items)
 
 -- a notice is known by its text
 abbrev pub notice_key : Part → List ℕ
@@ -100,13 +107,18 @@ too_large_line account limit message = account_line account
 -- how many more are
 abbrev pub unnamed_line : List ℕ → Option ℕ → List ℕ
 unnamed_line account None = []
-unnamed_line account (Some count) = account_line account
-    (decimal count ++ codes " more messages are larger than max_message_size: they stay on the server")
+unnamed_line account (Some count) = account_line account (
+    if count == 1 then codes "1 more message is larger than max_message_size: it stays on the server"
+    else decimal count ++ codes " more messages are larger than max_message_size: they stay on the server")
+
+-- so many are left
+abbrev pub left_words : ℕ → List ℕ
+left_words left = if left == 1 then codes "1 message is left" else decimal left ++ codes " messages are left"
 
 -- each run since then left messages out for the limit on their number, the last one so many
 abbrev pub reached_words : ℕ → List ℕ → List ℕ
 reached_words left date = codes "each run since " ++ (date ++ (codes " reached max_messages_per_session: "
-    ++ (decimal left ++ codes " messages are left")))
+    ++ left_words left))
 
 abbrev pub IsReached : List ℕ → ℕ → ℕ → List ℕ → Type 0
 IsReached account left since line = IsDatedLine account (reached_words left) since line
@@ -268,34 +280,41 @@ lack_text lacks = if lacks then codes "getmail: out of memory\n" else []
 abbrev pub all_text : List Part → List ℕ
 all_text parts = flat_map (λ part. part.text.items) parts
 
--- the rest was written, or that memory ran out for it
-abbrev pub WritesRest : {E : Type 0} → (E → Option (List ℕ)) → RunSaid → News → Output E → Output E → Type 0
-WritesRest contents said news old new = (text : List ℕ)
-    × ((text ≡ rest_text said news) ⊎ (text ≡ lack_text true)) × Puts contents old text new
+-- that each run tells it, if something is told
+abbrev pub unkept_line : List ℕ → List ℕ → List ℕ
+unkept_line account told = if length told == 0 then []
+    else account_line account (codes "each run tells this, since the folder of its record cannot be written")
+
+-- what isn't told yet was written, and that each run does so; or that memory ran out for it
+abbrev pub WritesRest : {E : Type 0} → (E → Option (List ℕ)) → RunSaid → Decided → Output E → Output E → Type 0
+WritesRest contents said decided old new = (text : List ℕ)
+    × ((text ≡ rest_text said decided.news
+    ++ unkept_line said.account.items (decided.words.items ++ rest_text said decided.news))
+    ⊎ (text ≡ lack_text true)) × Puts contents old text new
 
 -- what is told from now on was kept; or the rest was told too
-abbrev pub KeepsOrTells : {E : Type 0} → (E → Option (List ℕ)) → RunSaid → News → Bool → Output E → Output E → Type 0
-KeepsOrTells contents said news true old new = new ≡ old
-KeepsOrTells contents said news false old new = WritesRest contents said news old new
+abbrev pub KeepsOrTells : {E : Type 0} → (E → Option (List ℕ)) → RunSaid → Decided → Bool → Output E → Output E → Type 0
+KeepsOrTells contents said decided true old new = new ≡ old
+KeepsOrTells contents said decided false old new = WritesRest contents said decided old new
 
 -- octets were kept, unless something couldn't be written: then the next run tells it
-abbrev pub KeepsOctets : {E : Type 0} → (E → Option (List ℕ)) → (List ℕ → Bool → Type 0) → RunSaid → News → List ℕ
+abbrev pub KeepsOctets : {E : Type 0} → (E → Option (List ℕ)) → (List ℕ → Bool → Type 0) → RunSaid → Decided → List ℕ
     → Output E → Output E → Type 0
-KeepsOctets contents kept said news octets old new = ((is_some old.refusal ≡ true) × (new ≡ old))
+KeepsOctets contents kept said decided octets old new = ((is_some old.refusal ≡ true) × (new ≡ old))
     ⊎ ((is_some old.refusal ≡ false)
-    × ((is_kept : Bool) × kept octets is_kept × KeepsOrTells contents said news is_kept old new))
+    × ((is_kept : Bool) × kept octets is_kept × KeepsOrTells contents said decided is_kept old new))
 
-abbrev pub KeepsNews : {E : Type 0} → (E → Option (List ℕ)) → (List ℕ → Bool → Type 0) → RunSaid → News
+abbrev pub KeepsNews : {E : Type 0} → (E → Option (List ℕ)) → (List ℕ → Bool → Type 0) → RunSaid → Decided
     → Option (List ℕ) → Output E → Output E → Type 0
-KeepsNews contents kept said news None old new = new ≡ old
-KeepsNews contents kept said news (Some octets) old new = KeepsOctets contents kept said news octets old new
+KeepsNews contents kept said decided None old new = new ≡ old
+KeepsNews contents kept said decided (Some octets) old new = KeepsOctets contents kept said decided octets old new
 
 -- what was decided was written and kept
 pub record TellsDecided {E : Type 0} (contents : E → Option (List ℕ)) (kept : List ℕ → Bool → Type 0) (said : RunSaid)
     (decided : Decided) (old new : Output E) : Type 0 where
   pub middle : Output E
   pub puts : Puts contents old (decided.words.items ++ lack_text said.lacks_memory) middle
-  pub keeps : KeepsNews contents kept said decided.news (option_map (λ octets. octets.items) decided.octets) middle new
+  pub keeps : KeepsNews contents kept said decided (option_map (λ octets. octets.items) decided.octets) middle new
 
 -- a time as a mark, which is none if it is 0
 abbrev pub time_mark : Option SystemTime → ℕ
@@ -338,6 +357,11 @@ LeavesToOther gave showed held true leaves =
     (waiting : Waiting) × HasPatience gave showed held waiting × (leaves ≡ waiting.is_patient)
 
 -- ---- the file that keeps what was told
+
+-- the path of a file of the same name in the folder that a system gives a user
+abbrev pub IsSparePath : ℕ → List ℕ → List ℕ → Type 0
+IsSparePath user path spare = (folder name : List ℕ) × SplitsAroundMatch (RFindsChar 47) path folder name
+    × (spare ≡ codes "/run/user/" ++ (decimal user ++ (codes "/getmail-" ++ name)))
 
 -- what was found at its path is read if it is a file, which gave these octets or refused them
 abbrev pub ReadsFound : {Z : Type 0} → (List ℕ → Type 0) → Type 0 → Result Metadata Error

@@ -48,9 +48,15 @@ unflushed_lines settings None = []
 unflushed_lines settings (Some path) =
     line_about settings Notice path (codes ": its file system flushes no folders") ∷ []
 
+-- the server may have given new ids to all that it listed, and may do so for each session
+abbrev pub new_ids_lines : Settings → Bool → List NoticeLine
+new_ids_lines settings false = []
+new_ids_lines settings true = line_about settings Lasting (codes "warning: ") (codes
+    "none of the listed messages was in the record, others were: if their ids are new, all mail comes again") ∷ []
+
 -- all that was noticed of a run's devices
 abbrev pub noticed_lines : Settings → List ℕ → Noticed → List NoticeLine
 noticed_lines settings rests noticed = rests_lines settings noticed.keeps_rests rests
     ++ (obstruction_lines settings noticed.obstructions.now
     ++ (refusal_lines settings (option_map (λ reason. reason.items) noticed.refusal)
-    ++ unflushed_lines settings (option_copied noticed.unflushed)))
+    ++ (unflushed_lines settings (option_copied noticed.unflushed) ++ new_ids_lines settings noticed.has_new_ids)))

@@ -1,5 +1,8 @@
 -- What a command line leads to.
-use Rattle.std.specs.Prelude.{◌≡◌, ◌⊎◌, ◌&&◌, ◌≤◌, ℕ, Bool, true, false, not, List, [], Option}
+use Rattle.std.specs.{
+  Prelude.{◌≡◌, ◌⊎◌, ◌&&◌, ◌≤◌, ℕ, Bool, true, false, nat_eq, not, List, [], ◌∷◌, Option, codes},
+  List.starts_with,
+}
 use Rattle.clap.specs.{Words.{HasKind, fault_of, matches_of}, declared.error.Error.Error, Values.kind_of}
 use Rattle.command_line.specs.Rules.{is_asked_text}
 use Rattle.rc_file.specs.declared.flags.Flags.{Flags}
@@ -25,6 +28,11 @@ pub record Obeys {S : Type 0} (rehearsed : Flags → ℕ → Type 0) (gave : S �
   pub rehearsal : words.rehearse ≡ true → rehearsed words.flags status
   pub run : words.rehearse ≡ false → (files : S)
       × Starts (gave files) (refused files) ran words status
+
+-- the words of a command line are the program's name and one that is no option
+abbrev pub has_name_alone : List (List ℕ) → Bool
+has_name_alone (program ∷ name ∷ []) = not (starts_with nat_eq name (codes "-"))
+has_name_alone arguments = false
 
 -- memory ran out, or a text of help or of the version was asked for, or there is a fault of usage
 pub record Explains (arguments : List (List ℕ)) (status : ℕ) : Type 0 where

@@ -1,6 +1,7 @@
 -- What is told at a session's end.
 use Rattle.std.specs.{
-  Prelude.{◌≡◌, ◌≢◌, ◌⊎◌, ℕ, Bool, true, false, ◌==◌, List, [], ◌++◌, Option, None, Some, codes, length, if◌then◌else◌},
+  Prelude.{◌≡◌, ◌≢◌, ◌⊎◌, ◌+◌, ℕ, Bool, true, false, ◌==◌, List, [], ◌++◌, Option, None, Some, codes, length},
+  Prelude.if◌then◌else◌,
   Fmt.decimal,
 }
 use Rattle.rc_file.specs.declared.settings.Settings.{Settings}
@@ -11,7 +12,7 @@ use Rattle.session_parts.specs.{
   },
   Reasons.told_report,
   Telling.preview_text,
-  Text.fault_text,
+  Text.{fault_text, report_text},
 }
 use Rattle.fetch_rules.specs.declared.plans.Step.{Step}
 use Rattle.run_memory.specs.declared.run.Counts.{Counts}
@@ -55,6 +56,16 @@ Reported contents explains settings IsPlan (Ahead preview) out out' =
 abbrev pub is_idle : Told → Bool
 is_idle (Done report) = report.skipped == report.total
 is_idle (Ahead preview) = true
+
+-- all that the plan passes over is left out
+abbrev pub is_none_known : Report → Bool
+is_none_known report = report.skipped == (report.left_out.obstructed + report.left_out.too_large)
+    + (report.left_out.past_limit + report.left_out.repeated)
+
+-- how many messages were listed, if none is passed over because it is known; else 0
+abbrev pub unknown_in : Told → ℕ
+unknown_in (Done report) = if is_none_known report then report.total else 0
+unknown_in (Ahead preview) = 0
 
 -- ---- lines
 
@@ -136,6 +147,7 @@ pub record TellsErrors {E : Type 0} (contents : E → Option (List ℕ)) (settin
     (told : Told) (refusal : Option OutputRefusal) (old : Errors E) (fetched : Fetched) (new : Errors E)
     : Type 0 where
   pub idle : fetched.is_idle ≡ is_idle told
+  pub unknown : fetched.unknown ≡ unknown_in told
   pub status : fetched.status ≡ status_when (told_outcome told) refusal
   pub reasons : List ℕ
   pub are_reasons : SaysReasons settings old.says_why (told_outcome told) destination seen new.err.refusal reasons
@@ -152,6 +164,16 @@ pub record TellsAll {O E : Type 0} (out_contents : O → Option (List ℕ)) (err
     : Type 0 where
   pub reported : Reported out_contents explains settings IsPlan told out out'
   pub errors : TellsErrors err_contents settings destination seen told out'.refusal old fetched new
+
+-- the report of a session goes to a new output, and the line of the fault that cut it, if one did, to another one;
+-- and this is the exit status
+pub record TellsPlainly {O E : Type 0} (out_contents : O → Option (List ℕ)) (err_contents : E → Option (List ℕ))
+    (settings : Settings) (report : Report) (out : O) (err : E) (status : ℕ) : Type 0 where
+  pub out' : Output O
+  pub reported : Puts out_contents (record { writer = out; refusal = None }) (report_text report settings) out'
+  pub err' : Output E
+  pub cut : Puts err_contents (record { writer = err; refusal = None }) (outcome_line report.outcome) err'
+  pub status_is : status ≡ status_when report.outcome out'.refusal
 
 -- how many messages a session left out, of those that an unattended run counts
 abbrev pub counts_of : LeftOut → Counts

@@ -24,10 +24,12 @@ pub struct Fetched {
     pub status: u8,
     /// Whether it had nothing to fetch.
     pub is_idle: bool,
+    /// How many messages were listed, if none was passed over because it is known; else 0.
+    pub unknown: u32,
 }
 
 /// Writes the line of the fault that cut a session, if one did.
-fn put_outcome<E: Write>(alloc: Global, outcome: &Outcome, err: &mut Output<E>)
+pub fn put_outcome<E: Write>(alloc: Global, outcome: &Outcome, err: &mut Output<E>)
     ensures { Puts E.contents err.old (outcome_line outcome.now) err.new }
 {
     match outcome {
@@ -97,7 +99,7 @@ pub fn unwritten_line(outcome: &Outcome, refusal: Option<OutputRefusal>) -> &'st
 }
 
 /// The exit status.
-fn status_when(outcome: Outcome, refusal: Option<OutputRefusal>) -> u8
+pub fn status_when(outcome: Outcome, refusal: Option<OutputRefusal>) -> u8
     ensures status { result ≡ status_when outcome refusal }
     ensures within { result ≤ 1 }
 {
@@ -146,5 +148,6 @@ pub fn tell_all<E: Write>(
     Fetched {
         status,
         is_idle: told.is_idle(),
+        unknown: told.unknown(),
     }
 }

@@ -1,7 +1,7 @@
 //! A run over devices that are made for it.
 ghost use Rattle.std.specs.{
   Option.option_copied,
-  Prelude.{◌≡◌, ◌≤◌, ◌==◌, ◌&&◌, ℕ, List, None, Some, false, is_some, not, option_map},
+  Prelude.{◌≡◌, ◌≤◌, ◌==◌, ◌&&◌, ℕ, List, None, Some, false, is_some, not, option_map, true},
 };
 ghost use Rattle.rc_file.specs.Settings.{IsValid};
 ghost use Rattle.session_parts.specs.{Account.IsSameAccount, Hearing.IsPlanOf, Target.NoneBegun};
@@ -17,16 +17,19 @@ ghost use Rattle.getmail_program.specs.{
   Devices.{IsAt, IsNoticed, StoreFor, is_name_taken},
   Fetching.{FetchesAt, FetchesInto, TellsOf},
   Holding.{HoldsSession, holding_of},
-  Noticing.{TakesEach, noticed_lines, obstruction_lines, refusal_lines, rests_lines, unflushed_lines},
+  NewIds.SaysNewIds,
+  Noticing.{TakesEach, new_ids_lines, noticed_lines, obstruction_lines, refusal_lines, rests_lines, unflushed_lines},
   Telling.{TellsAll, counts_of},
   declared.{errand.Noticed.Noticed, told.Told.Told},
 };
 
 use crate::devices::{HostDevices, MachineFile, MachineStore};
 use crate::ending::{Fetched, tell_all};
+use crate::new_ids::has_new_ids;
 use crate::told::{RunTerms, Told, hold};
 use fetch_rules::Settings;
 use fetch_session::{Account, Report, Store};
+use file_reading::ReadFile;
 use folder_store::HostMaildir;
 use getmail_setup::{Errors, Output, Paths, Reasons, ShownWire, Subject, second_of, tell_reason};
 use mail_store::{FlatFile, MaildirDisk};
@@ -163,6 +166,21 @@ struct Noticed<'b> {
     refusal: Option<Vec<u8>>,
     /// The path of a folder whose names weren't flushed because the system flushes no folders, if there is one.
     unflushed: Option<&'b str>,
+    /// Whether the server may have given new ids to all that it listed.
+    has_new_ids: bool,
+}
+
+/// What is told of a server that may have given new ids.
+const NEW_IDS: &[u8] =
+    b"none of the listed messages was in the record, others were: if their ids are new, all mail comes again";
+
+/// Tells that a server may have given new ids, if so: that lasts, if it does so for each session.
+fn tell_new_ids<N: Notices>(settings: &Settings, has_new_ids: bool, notices: &mut N)
+    ensures { TakesEach N.took (new_ids_lines settings.now has_new_ids) notices.old notices.new }
+{
+    if has_new_ids {
+        notices.take_line(settings, Subject::Lasting, "warning: ", NEW_IDS);
+    }
 }
 
 /// Tells what was noticed of a run's devices, line by line.
@@ -174,24 +192,44 @@ fn tell_noticed<N: Notices>(settings: &Settings, rests: &str, noticed: Noticed<'
         obstructions,
         refusal,
         unflushed,
+        has_new_ids,
     } = noticed;
     tell_rests(settings, keeps_rests, rests, notices);
     tell_obstructions(settings, obstructions, notices);
     tell_store_refusal(settings, refusal, notices);
     tell_unflushed(settings, unflushed, notices);
+    tell_new_ids(settings, has_new_ids, notices);
 }
 
-/// Looks at a run's devices after it. A folder whose names weren't flushed is looked for only if reasons are asked for.
+/// Whether a server may have given new ids, which is looked for only if reasons are asked for.
+fn may_have_new_ids<'a, R: Files + Clock + AllocGlobal + Clone + Drop>(
+    says_why: bool,
+    system: &System<'a, R>,
+    left: &RunEnd<HostMaildir<'a, R>, MachineFile<'a, R>>,
+    terms: &RunTerms<'_>,
+) -> bool
+    ensures { result ≡ true → (says_why ≡ true) × SaysNewIds (⟦<System<'a, R> as ReadFile>⟧.gave system.now)
+        left.now.settings terms.entry.now.now terms.entry.now.record.now left.now.fetched.unknown }
+{
+    says_why && has_new_ids(system.alloc(), system, &left.settings, terms, &left.fetched)
+}
+
+/// Looks at a run's devices after it. A folder whose names weren't flushed and new ids are looked for only if reasons
+/// are asked for.
 fn look_at<'a, 'b, R: Files + Clock + AllocGlobal + Clone + Drop>(
-    alloc: Global,
     devices: &HostDevices<'a, R>,
     left: &'b RunEnd<HostMaildir<'a, R>, MachineFile<'a, R>>,
+    terms: &RunTerms<'_>,
     says_why: bool,
     reasons: &Reasons,
 ) -> Noticed<'b>
-    ensures { IsNoticed says_why left.entry.now.fetched.is_idle left.entry.now.store left.entry.now.seen_file result }
+    ensures { IsNoticed says_why (SaysNewIds (⟦<System<'a, R> as ReadFile>⟧.gave devices.now.for_record.now)
+        left.entry.now.settings terms.entry.now.now terms.entry.now.record.now left.entry.now.fetched.unknown)
+        left.entry.now.fetched.is_idle left.entry.now.store left.entry.now.seen_file result }
 {
     let store = &left.store;
+    let system = devices.for_record;
+    let alloc = system.alloc();
     Noticed {
         keeps_rests: devices.keeps_rests(store, left.fetched.is_idle),
         obstructions: devices.obstructions(store),
@@ -201,24 +239,27 @@ fn look_at<'a, 'b, R: Files + Clock + AllocGlobal + Clone + Drop>(
         } else {
             None
         },
+        has_new_ids: may_have_new_ids(says_why, system, left, terms),
     }
 }
 
 /// Tells what a run left that somebody should look at, and removes what killed runs left, unless the run had nothing to
 /// fetch.
 fn finish<'a, R: Files + Clock + AllocGlobal + Clone + Drop, E: Write>(
-    alloc: Global,
     devices: &HostDevices<'a, R>,
     left: &RunEnd<HostMaildir<'a, R>, MachineFile<'a, R>>,
+    terms: &RunTerms<'_>,
     rests: &str,
     errors: &mut Errors<'_, E>,
 )
     ensures { (noticed : Noticed)
-        × IsNoticed errors.old.says_why left.now.fetched.is_idle left.now.store left.now.seen_file noticed
+        × IsNoticed errors.old.says_why (SaysNewIds (⟦<System<'a, R> as ReadFile>⟧.gave devices.now.for_record.now)
+        left.now.settings terms.entry.now.now terms.entry.now.record.now left.now.fetched.unknown)
+        left.now.fetched.is_idle left.now.store left.now.seen_file noticed
         × TakesEach ⟦<Errors<'static, E> as Notices>⟧.took (noticed_lines left.now.settings rests.now noticed)
         errors.old errors.new }
 {
-    let noticed = look_at(alloc, devices, left, errors.says_why, errors.reasons);
+    let noticed = look_at(devices, left, terms, errors.says_why, errors.reasons);
     tell_noticed(&left.settings, rests, noticed, errors);
     if !left.fetched.is_idle {
         devices.sweep(&left.settings, &left.store, &left.seen_file);
@@ -268,7 +309,7 @@ fn note_left_out<W: Wire, S: Write, E>(
 /// Runs one session of the account over the link, or only previews it. What it says is written to `out`; then the
 /// line of the fault that cut it, and what else is told of it, to standard error. If not all was written to `out`, the
 /// exit status is 1.
-pub fn fetch_into<W: Wire, D: MaildirDisk, F: FlatFile, O: Write, E: Write>(
+pub fn fetch_told<W: Wire, D: MaildirDisk, F: FlatFile, O: Write, E: Write>(
     system: &System<'_, impl Files + AllocGlobal>,
     account: &mut Account<D, F, impl BuildHasher>,
     wire: &mut ShownWire<W, impl Write>,
@@ -286,6 +327,7 @@ pub fn fetch_into<W: Wire, D: MaildirDisk, F: FlatFile, O: Write, E: Write>(
         told out.old errors.old result out.new errors.new }
 {
     let told = hold(system, account, wire, terms, out);
+    errors.reasons.unread.set(wire.unread());
     let settings = account.settings();
     let fetched = tell_all(
         system.alloc(),
@@ -307,7 +349,7 @@ struct Readied<D, F, H> {
     hasher: H,
 }
 
-/// Does what `fetch_into` does, over an account that is made for it.
+/// Does what `fetch_told` does, over an account that is made for it.
 fn fetch_account<W: Wire, D: MaildirDisk, F: FlatFile, H: BuildHasher + Drop, O: Write, E: Write>(
     system: &System<'_, impl Files + AllocGlobal>,
     readied: Readied<D, F, H>,
@@ -334,7 +376,7 @@ fn fetch_account<W: Wire, D: MaildirDisk, F: FlatFile, H: BuildHasher + Drop, O:
         hasher,
     } = readied;
     let mut account = Account::new(system.alloc(), settings, store, seen_file, hasher);
-    let fetched = fetch_into(system, &mut account, wire, terms, out, errors);
+    let fetched = fetch_told(system, &mut account, wire, terms, out, errors);
     let (settings, store, seen_file) = account.into_parts();
     RunEnd {
         settings,
@@ -431,6 +473,6 @@ where
         journal: errors.journal,
     };
     let left = fetch_mail(system, readied, &mut wire, terms, out, &mut errors);
-    finish(alloc, devices, &left, rests, &mut errors);
+    finish(devices, &left, &terms, rests, &mut errors);
     left.into_status()
 }

@@ -12,6 +12,7 @@ ghost use Rattle.getmail_program.specs.{
 use crate::devices::HostDevices;
 use crate::errand::{Connected, Errand, fetch_at};
 use crate::news_file::{HostPast, Past, Waiting, patience};
+use crate::own_paths::{Guard, warn_of_open};
 use fetch_rules::Settings;
 use file_reading::ReadFile;
 use folder_store::{HostFile, HostFolder, HostMaildir, ProcessMark};
@@ -23,6 +24,7 @@ use getmail_setup::{
 use mail_store::{FlatFile, MaildirDisk};
 use pop3_wire::Wire;
 use std::alloc::{AllocError, Global};
+use std::cell::Cell;
 use std::env::Env;
 use std::fs::File;
 use std::hash::{BuildHasher, RandomState};
@@ -31,7 +33,7 @@ use std::net::{Net, TcpStream};
 use std::process::Process;
 use std::random::RandomSource;
 use std::rt::{Clock, Files};
-use system_calls::System;
+use system_calls::{Refusals, System};
 
 /// A machine, and the process that runs there.
 #[derive(Drop)]
@@ -172,11 +174,59 @@ fn stop_in_place<F: LookAt, E: Write>(
     stop_by(alloc, found, setup, errors)
 }
 
+/// Sets a run up from the rc file that the words name, if it isn't one of the superuser's that goes by paths of others,
+/// nor one in getmail6's place. Else it says why, and returns the exit status.
+fn set_up_safely<'a, R, E>(
+    rt: &'a R,
+    files: &System<'a, R>,
+    words: &Words,
+    has_refused: &Cell<bool>,
+    errors: &mut Errors<'_, E>,
+) -> Result<Setup, u8>
+where
+    R: Files<File = File> + Env + Clock + RandomSource + AllocGlobal + Clone,
+    E: Write,
+    ensures ok { IfOk result (λ setup. (home : Option (List ℕ))
+        × IsSetUp (⟦<System<'a, R> as ReadFile>⟧.gave files.now) home words.now setup) }
+    ensures within { IfErr result (λ status. status ≤ 2) }
+    ensures err { IfErr result (Starts (⟦<System<'a, R> as ReadFile>⟧.gave files.now)
+        (⟦<System<'a, R> as ReadFile>⟧.refused files.now) EndsBefore words.now) }
+{
+    let alloc = rt.alloc();
+    let Ok(home) = home(rt) else {
+        return Err(fail(alloc, Failure::NoMemory, None, errors));
+    };
+    let home = home.as_deref();
+    let refusals = Refusals::new(alloc, errors.reasons.before.trace());
+    let guard = Guard {
+        alloc,
+        looks: &System::new(rt, &refusals),
+        is_unattended: is_unattended(words),
+        has_refused,
+    };
+    if let Some(status) = guard.stop_at_front(home, words, errors) {
+        return Err(status);
+    }
+    let setup = match set_up(rt, files, home, words, errors) {
+        Ok(setup) => setup,
+        Err(failure) => return Err(fail(alloc, failure, None, errors)),
+    };
+    if let Some(status) = guard.stop_at_places(&setup, errors) {
+        return Err(status);
+    }
+    warn_of_open(rt, &setup, errors);
+    if let Some(status) = stop_in_place(alloc, &OnMachine { rt }, &setup, errors) {
+        return Err(status);
+    }
+    Ok(setup)
+}
+
 /// Sets a run up from the rc file that the words name, and takes its lock. If it isn't to go on, says why, and returns
 /// the exit status.
 fn get_ready<'a, R, E>(
     machine: &Machine<'a, R>,
     words: &Words,
+    has_refused: &Cell<bool>,
     errors: &mut Errors<'_, E>,
 ) -> Result<Ready, u8>
 where
@@ -192,16 +242,7 @@ where
     let rt = machine.rt;
     let alloc = rt.alloc();
     let files = System::new(rt, &errors.reasons.before);
-    let Ok(home) = home(rt) else {
-        return Err(fail(alloc, Failure::NoMemory, None, errors));
-    };
-    let setup = match set_up(rt, &files, home.as_deref(), words, errors) {
-        Ok(setup) => setup,
-        Err(failure) => return Err(fail(alloc, failure, None, errors)),
-    };
-    if let Some(status) = stop_in_place(alloc, &OnMachine { rt }, &setup, errors) {
-        return Err(status);
-    }
+    let setup = set_up_safely(rt, &files, words, has_refused, errors)?;
     let prepared = match prepare(rt, machine.process, &setup.settings) {
         Ok(prepared) => prepared,
         Err(failure) => return Err(fail(alloc, failure, None, errors)),
@@ -228,6 +269,7 @@ pub fn run<'a, R, O, E>(
     machine: &Machine<'a, R>,
     words: &Words,
     out: O,
+    has_refused: &Cell<bool>,
     mut errors: Errors<'_, E>,
 ) -> u8
 where
@@ -248,7 +290,7 @@ where
         },
         prepared: ((hasher, mark), peer),
         lock,
-    } = match get_ready(machine, words, &mut errors) {
+    } = match get_ready(machine, words, has_refused, &mut errors) {
         Ok(ready) => ready,
         Err(status) => return status,
     };

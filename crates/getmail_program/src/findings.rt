@@ -42,6 +42,8 @@ pub struct Findings<'a> {
     pub refused: Vec<u8>,
     /// Whether it refused that because rights were missing.
     pub is_denied: bool,
+    /// How many octets came since a command without a whole line.
+    pub unread: u64,
     /// The destination's path.
     pub destination: &'a str,
     /// The record's path.
@@ -302,6 +304,7 @@ pub fn findings_on<'a, E>(
             said: Said::new(alloc),
             refused: Vec::new(alloc),
             is_denied: false,
+            unread: 0,
             destination,
             record,
         });
@@ -313,6 +316,7 @@ pub fn findings_on<'a, E>(
         said,
         refused: refused_text(alloc, &refusal)?,
         is_denied: is_denied(&refusal),
+        unread: errors.reasons.unread.get(),
         destination,
         record,
     })

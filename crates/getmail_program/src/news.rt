@@ -29,12 +29,13 @@ ghost use Rattle.getmail_program.specs.News.{
   parts_text,
   rest_text,
   told_text,
+  unkept_line,
 };
 
 use crate::news_file::Past;
 use crate::news_text::{
     again_line, end_line, fault_key, limited_line, notice_key, repeated_line, too_large_line,
-    unnamed_line,
+    unkept_line, unnamed_line,
 };
 use getmail_setup::{Large, LeftOut, OUT_OF_MEMORY, Output, Part, Subject, second_of};
 use run_memory::{Key, Memory, News, Notice, Run, Telling};
@@ -405,11 +406,24 @@ fn tell_all<E: Write>(said: &RunSaid, err: &mut Output<E>)
     err.put(lack_text(true).as_bytes());
 }
 
-/// Tells the rest of what a run said, since it can't be kept what was told.
-fn tell_rest<E: Write>(alloc: Global, said: &RunSaid, news: &News, err: &mut Output<E>)
-    ensures { WritesRest E.contents said.now news.now err.old err.new }
+/// The rest of what a run said, and that each run tells all, if anything is told.
+fn unkept_text(alloc: Global, said: &RunSaid, decided: &Decided) -> Result<Vec<u8>, AllocError>
+    ensures { IfOk result (λ text. text.items ≡ rest_text said.now decided.now.news
+        ++ unkept_line said.now.account.items (decided.now.words.items ++ rest_text said.now decided.now.news)) }
 {
-    match rest_text(alloc, said, news) {
+    let mut rest = rest_text(alloc, said, &decided.news)?;
+    let mut told = Vec::from_slice(alloc, &decided.words)?;
+    told.extend_from_slice(&rest)?;
+    let line = unkept_line(alloc, &said.account, &told)?;
+    rest.extend_from_slice(&line)?;
+    Ok(rest)
+}
+
+/// Tells the rest of what a run said, since it can't be kept what was told.
+fn tell_rest<E: Write>(alloc: Global, said: &RunSaid, decided: &Decided, err: &mut Output<E>)
+    ensures { WritesRest E.contents said.now decided.now err.old err.new }
+{
+    match unkept_text(alloc, said, decided) {
         Ok(text) => err.put(&text),
         Err(_) => err.put(lack_text(true).as_bytes()),
     }
@@ -420,11 +434,11 @@ fn keep_octets<P: Past, E: Write>(
     alloc: Global,
     past: &P,
     said: &RunSaid,
-    news: &News,
+    decided: &Decided,
     octets: &[u8],
     err: &mut Output<E>,
 )
-    ensures { KeepsOctets E.contents (P.kept past.now) said.now news.now octets.now err.old err.new }
+    ensures { KeepsOctets E.contents (P.kept past.now) said.now decided.now octets.now err.old err.new }
 {
     if err.refusal().is_some() {
         return;
@@ -432,7 +446,7 @@ fn keep_octets<P: Past, E: Write>(
     if past.keep(octets) {
         return;
     }
-    tell_rest(alloc, said, news, err);
+    tell_rest(alloc, said, decided, err);
 }
 
 /// Tells what was decided, and keeps it.
@@ -449,7 +463,7 @@ fn tell_decided<P: Past, E: Write>(
     err.put(lack_text(said.lacks_memory).as_bytes());
     match &decided.octets {
         None => {}
-        Some(octets) => keep_octets(alloc, past, said, &decided.news, octets, err),
+        Some(octets) => keep_octets(alloc, past, said, decided, octets, err),
     }
 }
 

@@ -1,6 +1,10 @@
 //! What unattended runs told before: the file that keeps it, and the clock by which it is told again.
 ghost use Rattle.std.specs.{
-  Prelude.{◌≡◌, ◌≢◌, ℕ, Bool, true, List, Option, Some, Result, Ok, IfErr, IfOk, IfSome, IsErr, MatchOption},
+  Prelude.{◌≡◌, ◌≢◌, ◌++◌, ℕ, Bool, true, List, Option, Some, Result, Ok, IfErr, IfOk, IfSome, IsErr, IsSomeAnd},
+  Prelude.{IsTrue, MatchOption, codes},
+  Fmt.decimal,
+  Fs.{IsDir, file_type, metadata_mode},
+  Int.Bits.bit_and,
   IoError.error_kind,
   String.string_bytes,
   declared.{alloc.AllocError.AllocError, time.SystemTime.SystemTime},
@@ -8,7 +12,7 @@ ghost use Rattle.std.specs.{
 ghost use Rattle.mail_store.specs.Durable.{all_durable};
 ghost use Rattle.run_memory.specs.{Memory.{Told, nothing, told_in}, Times.is_void};
 ghost use Rattle.getmail_setup.specs.Places.{IsToldPath};
-ghost use Rattle.getmail_program.specs.News.{HasPatience, ReadsFound, met_in};
+ghost use Rattle.getmail_program.specs.News.{HasPatience, IsSparePath, ReadsFound, met_in};
 
 use file_reading::ReadFile;
 use folder_store::{HostFile, ProcessMark};
@@ -17,8 +21,9 @@ use mail_store::FlatFile;
 use run_memory::{MOST_OCTETS, Memory};
 use std::alloc::{AllocError, Global};
 use std::env::Env;
-use std::fs::Metadata;
+use std::fs::{self, Metadata};
 use std::io::{self, ErrorKind};
+use std::os::unix::fs::{MetadataExt, PermissionsExt};
 use std::process::Process;
 use std::random::RandomSource;
 use std::rt::{Clock, Files};
@@ -111,6 +116,8 @@ pub struct HostPast<'a, R> {
     rt: &'a R,
     process: Process,
     path: Option<String>,
+    /// Where it is kept instead if the folder of that can't be written: then it is newer.
+    spare: Option<String>,
 }
 
 /// The path of the file that keeps what was told, if it is known.
@@ -119,6 +126,43 @@ fn path_of<R: Env + AllocGlobal>(rt: &R, words: &Words) -> Option<String>
 {
     let home = home(rt).ok()?;
     told_path(rt.alloc(), home.as_deref(), words).ok()
+}
+
+/// Whether a folder is a user's own, and nobody else's.
+fn is_private(found: &Metadata, user: u32) -> bool
+    ensures { IsTrue result → IsDir (file_type found.now) × (bit_and (metadata_mode found.now) 0o777 ≡ 0o700) }
+{
+    found.is_dir() && found.uid() == user && found.permissions().mode() & 0o777 == 0o700
+}
+
+/// The path of a file of this name in a folder; its name begins in this way.
+fn spare_path(alloc: Global, user: u32, path: &str) -> Option<String>
+    ensures { IfSome result (λ spare. IsSparePath user path.now (string_bytes spare)) }
+{
+    let (_, name) = path.rsplit_once('/')?;
+    format!(in alloc; "/run/user/{user}/getmail-{name}").ok()
+}
+
+/// The folder that a system gives a user while there is a session.
+fn run_folder(alloc: Global, user: u32) -> Option<String>
+    ensures { IfSome result (λ folder. string_bytes folder ≡ codes "/run/user/" ++ decimal user) }
+{
+    format!(in alloc; "/run/user/{user}").ok()
+}
+
+/// Where it is kept what was told if the folder for it can't be written: in one of the user's own, if there is one.
+fn spare_for<R: Files + AllocGlobal>(rt: &R, path: Option<&str>) -> Option<String>
+    ensures { IfSome result (λ spare. IsSomeAnd path.entry (λ path.
+        (user : ℕ) × IsSparePath user path.now (string_bytes spare))) }
+{
+    let alloc = rt.alloc();
+    let user = libc::geteuid();
+    let folder = run_folder(alloc, user)?;
+    let found = fs::symlink_metadata(rt, folder.as_str()).ok()?;
+    if !is_private(&found, user) {
+        return None;
+    }
+    spare_path(alloc, user, path?)
 }
 
 /// The octets at a path, if a file was found there.
@@ -160,17 +204,44 @@ fn keep_at<R: Files + Clock + RandomSource + AllocGlobal + Clone + Drop>(
     is_kept
 }
 
-impl<'a, R: Env + AllocGlobal> HostPast<'a, R> {
+/// Writes these octets to the file at a path, if there is one, and whether that was done.
+fn keep_in_place<R: Files + Clock + RandomSource + AllocGlobal + Clone + Drop>(
+    rt: &R,
+    process: Process,
+    path: Option<&str>,
+    octets: &[u8],
+) -> bool {
+    match path {
+        Some(path) => keep_at(rt, process, path, octets),
+        None => false,
+    }
+}
+
+impl<'a, R: Files + Env + AllocGlobal> HostPast<'a, R> {
     /// What is kept for the rc file that these words name.
     pub fn new(rt: &'a R, process: Process, words: &Words) -> HostPast<'a, R>
         ensures { IfSome result.path (λ path. (home : Option (List ℕ))
             × IsToldPath home words.now (string_bytes path)) }
     {
+        let path = path_of(rt, words);
+        let spare = spare_for(rt, path.as_deref());
         HostPast {
             rt,
             process,
-            path: path_of(rt, words),
+            path,
+            spare,
         }
+    }
+
+    /// What a file keeps, if one is at this path.
+    fn kept_at(&self, path: Option<&str>) -> io::Result<Option<Vec<u8>>> {
+        let Some(path) = path else {
+            return Ok(None);
+        };
+        let refusals = Refusals::new(self.rt.alloc(), None);
+        let system = System::new(self.rt, &refusals);
+        let found = refusals.kept(system.lstat(path));
+        octets_at(&system, path, found)
     }
 }
 
@@ -186,20 +257,47 @@ where
 
     fn memory(&self) -> Result<Memory, AllocError> {
         let alloc = self.rt.alloc();
-        let Some(path) = &self.path else {
-            return Ok(Memory::new(alloc));
-        };
-        let refusals = Refusals::new(alloc, None);
-        let system = System::new(self.rt, &refusals);
-        let found = refusals.kept(system.lstat(path.as_str()));
-        memory_in(alloc, &octets_at(&system, path.as_str(), found))
+        if let Ok(Some(octets)) = self.kept_at(self.spare.as_deref()) {
+            return Memory::read(alloc, &octets);
+        }
+        memory_in(alloc, &self.kept_at(self.path.as_deref()))
     }
 
     fn keep(&self, octets: &[u8]) -> bool {
-        match &self.path {
-            Some(path) => keep_at(self.rt, self.process, path.as_str(), octets),
-            None => false,
+        if keep_in_place(self.rt, self.process, self.path.as_deref(), octets) {
+            if let Some(spare) = &self.spare {
+                let _ = fs::remove_file(self.rt, spare.as_str());
+            }
+            return true;
         }
+        keep_in_place(self.rt, self.process, self.spare.as_deref(), octets)
+    }
+
+    fn time(&self) -> Option<SystemTime> {
+        SystemTime::now(self.rt).ok()
+    }
+}
+
+/// Nothing was kept of what is told, and nothing is to be. That counts as done, so that no line says why each run tells
+/// it: a line before has said so.
+#[derive(Drop)]
+pub struct NoPast<'a, R> {
+    pub rt: &'a R,
+}
+
+impl<'a, R: Clock + AllocGlobal> Past for NoPast<'a, R> {
+    ghost gave = { λ _ memory. memory ≡ Ok nothing };
+
+    ghost kept = { λ _ _ is_kept. is_kept ≡ true };
+
+    ghost showed = { λ _ _. Unit {0} };
+
+    fn memory(&self) -> Result<Memory, AllocError> {
+        Ok(Memory::new(self.rt.alloc()))
+    }
+
+    fn keep(&self, _octets: &[u8]) -> bool {
+        true
     }
 
     fn time(&self) -> Option<SystemTime> {

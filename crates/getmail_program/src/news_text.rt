@@ -12,6 +12,7 @@ ghost use Rattle.getmail_program.specs.News.{
   IsSeen,
   account_line,
   fault_key,
+  left_words,
   mended_words,
   too_large_line,
   notice_key,
@@ -19,7 +20,9 @@ ghost use Rattle.getmail_program.specs.News.{
   repeated_line,
   seen_words,
   utf8_in,
+  unkept_line,
   unnamed_line,
+  without_number,
 };
 
 use getmail_setup::{Large, Part, digest_of};
@@ -51,11 +54,28 @@ fn first_line(text: &[u8]) -> &[u8]
     cut_text(text).0
 }
 
-/// What a fault is known by: its line, without the lines of its reason, and the path that it is about.
+/// What begins the line of a refused command that has the number of a message behind it.
+const RETR: &[u8] = b"getmail: server refused RETR ";
+
+const DELE: &[u8] = b"getmail: server refused DELE ";
+
+/// A fault's line without the number of a message: mail that leaves the server changes it.
+fn without_number(line: &[u8]) -> &[u8]
+    ensures { result.now ≡ without_number line.now }
+{
+    if line.starts_with(RETR) || line.starts_with(DELE) {
+        line.get(..29).unwrap_or(line)
+    } else {
+        line
+    }
+}
+
+/// What a fault is known by: its line, without the number of a message and the lines of its reason, and the path that
+/// it is about.
 pub fn fault_key(part: &Part) -> Key
     ensures { result ≡ fault_key part.now }
 {
-    let line = utf8_in(first_line(&part.text));
+    let line = utf8_in(without_number(first_line(&part.text)));
     Key::new(digest_of(line, utf8_in(&part.place)).as_str())
 }
 
@@ -148,6 +168,10 @@ pub fn unnamed_line(
 {
     match count {
         None => Ok(Vec::new(alloc)),
+        Some(1) => {
+            let words = "1 more message is larger than max_message_size: it stays on the server";
+            Ok(account_line(alloc, account, words)?)
+        }
         Some(count) => {
             let words = format!(in alloc;
                 "{count} more messages are larger than max_message_size: they stay on the server"
@@ -157,13 +181,22 @@ pub fn unnamed_line(
     }
 }
 
+/// How many messages are left.
+fn left_words(alloc: Global, left: u64) -> Result<String, AllocError>
+    ensures { IfOk result (λ words. string_bytes words ≡ left_words left) }
+{
+    if left == 1 {
+        return String::from_str(alloc, "1 message is left");
+    }
+    format!(in alloc; "{left} messages are left")
+}
+
 /// Since when each run reached the limit on the number of messages, and how many are left.
 fn reached_words(alloc: Global, date: &str, left: u64) -> Result<String, AllocError>
     ensures { IfOk result (λ words. string_bytes words ≡ reached_words left date.now) }
 {
-    format!(in alloc;
-        "each run since {date} reached max_messages_per_session: {left} messages are left"
-    )
+    let words = left_words(alloc, left)?;
+    format!(in alloc; "each run since {date} reached max_messages_per_session: {words}")
 }
 
 /// The line on that.
@@ -205,6 +238,17 @@ pub fn repeated_line(
             Ok(account_line(alloc, account, words.as_str())?)
         }
     }
+}
+
+/// That each run tells what is told, if something is.
+pub fn unkept_line(alloc: Global, account: &[u8], told: &[u8]) -> Result<Vec<u8>, AllocError>
+    ensures { IfOk result (λ line. line.items ≡ unkept_line account.now told.now) }
+{
+    if told.is_empty() {
+        return Ok(Vec::new(alloc));
+    }
+    let words = "each run tells this, since the folder of its record cannot be written";
+    Ok(account_line(alloc, account, words)?)
 }
 
 /// Since when runs had failed that work again.

@@ -1,8 +1,9 @@
 //! The lines after a fault's: the account, and the reason.
 ghost use Rattle.std.specs.{Prelude.{◌≡◌, ◌++◌, IfOk, codes}, String.string_bytes};
-ghost use Rattle.getmail_program.specs.Reasons.{hint_text, is_by_a_tunnel, line_if_any, or_else, place_in, rights_hint};
-ghost use Rattle.getmail_program.specs.Reasons.{missing_hint, reason_line, reason_text, reasons_of, reasons_said};
-ghost use Rattle.getmail_program.specs.Reasons.{login_hint, rows_text, says_cause, tunnel_hint};
+ghost use Rattle.getmail_program.specs.Reasons.{ended_hint, hint_text, is_by_a_tunnel, line_if_any, or_else, place_in};
+ghost use Rattle.getmail_program.specs.Reasons.{missing_hint, plain_hint, reason_line, reason_text, reasons_of};
+ghost use Rattle.getmail_program.specs.Reasons.{login_hint, reasons_said, record_hint, rights_hint, rows_text};
+ghost use Rattle.getmail_program.specs.Reasons.{says_cause, tunnel_hint, unread_text, wants_tls};
 
 use crate::findings::Findings;
 use fetch_rules::{Dest, Settings};
@@ -68,6 +69,27 @@ fn rows_text(alloc: Global, said: &Said) -> Result<String, AllocError>
     format!(in alloc; ", UIDL has {uids} rows and LIST {sizes}")
 }
 
+/// That octets came without a whole line, if so.
+fn unread_text(alloc: Global, unread: u64) -> Result<String, AllocError>
+    ensures { IfOk result (λ text. string_bytes text ≡ unread_text unread) }
+{
+    if unread == 0 {
+        return Ok(String::new(alloc));
+    }
+    if unread == 1 {
+        return String::from_str(alloc, ": 1 octet, no line with CR LF");
+    }
+    format!(in alloc; ": {unread} octets, no line with CR LF")
+}
+
+/// Why a connection ended or failed, and what came before that of a line.
+fn with_unread(alloc: Global, words: &[u8], found: &Findings<'_>) -> Result<Vec<u8>, AllocError>
+    ensures { IfOk result (λ text. text.items ≡ words.now ++ unread_text found.now.unread) }
+{
+    let unread = unread_text(alloc, found.unread)?;
+    concat(alloc, words, unread.as_bytes())
+}
+
 /// What was refused at a path, which is told if nothing else was noted.
 fn refused_at(alloc: Global, found: &Findings<'_>, path: &str) -> Result<Vec<u8>, AllocError>
     ensures { IfOk result (λ text. text.items
@@ -92,10 +114,12 @@ fn reason_text(alloc: Global, fault: &Fault, found: &Findings<'_>) -> Result<Vec
     let said = &found.said;
     let command = said.command.as_slice();
     match fault {
-        Fault::ConnectionEnded => at_place(alloc, b"it ended ", said),
-        Fault::ReadFailed | Fault::WriteFailed => {
-            or_else(alloc, &found.refused, at_place(alloc, b"it failed ", said)?)
+        Fault::ConnectionEnded => with_unread(alloc, &at_place(alloc, b"it ended ", said)?, found),
+        Fault::ReadFailed => {
+            let failed = or_else(alloc, &found.refused, at_place(alloc, b"it failed ", said)?)?;
+            with_unread(alloc, &failed, found)
         }
+        Fault::WriteFailed => or_else(alloc, &found.refused, at_place(alloc, b"it failed ", said)?),
         Fault::ReplyTooLong => at_place(alloc, b"2048 octets hold no whole line, ", said),
         Fault::BadReply | Fault::Refused(_) => concat(alloc, b"the server said: ", &said.answer),
         Fault::BadListing => {
@@ -124,11 +148,11 @@ fn reason_text(alloc: Global, fault: &Fault, found: &Findings<'_>) -> Result<Vec
     }
 }
 
-/// Whether nothing was sent, and the server is on this machine.
+/// Whether nothing came and nothing was sent, and the server is on this machine.
 fn is_by_a_tunnel(settings: &Settings, found: &Findings<'_>) -> bool
     ensures { result ≡ is_by_a_tunnel settings.now found.now }
 {
-    found.said.command.is_empty() && is_near(settings.server.as_str())
+    found.unread == 0 && found.said.command.is_empty() && is_near(settings.server.as_str())
 }
 
 /// Where a tunnel says why it ended a connection at once; empty if no tunnel did.
@@ -142,15 +166,41 @@ fn tunnel_hint(settings: &Settings, found: &Findings<'_>) -> &'static str
     }
 }
 
+/// What may help if a server ends the connection: some do at each DELE.
+fn ended_hint(settings: &Settings, found: &Findings<'_>) -> &'static str
+    ensures { result.now ≡ ended_hint settings.now found.now }
+{
+    if found.said.command.starts_with(b"DELE ") {
+        "if it ends at each DELE, this server deletes nothing: set delete = false, and mail is fetched"
+    } else {
+        tunnel_hint(settings, found)
+    }
+}
+
 /// How a destination that is missing is made.
 fn missing_hint(dest: &Dest) -> &'static str
     ensures { result.now ≡ missing_hint dest.now }
 {
     match dest {
         Dest::Maildir(_) => {
-            "mkdir -p makes it: a Maildir is a folder with the folders cur, new and tmp"
+            "is its disk mounted? else mkdir -p makes it: a Maildir is a folder with the folders cur, new and tmp"
         }
-        Dest::Mboxrd(_) => "touch makes it: an empty file is an mbox file",
+        Dest::Mboxrd(_) =>
+            "is its disk mounted? else touch makes it: an empty file is an mbox file",
+    }
+}
+
+/// What it costs to move a record away that isn't understood.
+fn record_hint(dest: &Dest) -> &'static str
+    ensures { result.now ≡ record_hint dest.now }
+{
+    match dest {
+        Dest::Maildir(_) => {
+            "a run makes a new one if it is moved away: what the Maildir holds isn't stored again, all else is"
+        }
+        Dest::Mboxrd(_) => {
+            "a run makes a new one if it is moved away: all mail then comes into the mbox file again"
+        }
     }
 }
 
@@ -172,11 +222,32 @@ fn says_cause(answer: &[u8]) -> bool
     answer.starts_with(b"-ERR [") && !answer.starts_with(b"-ERR [AUTH]")
 }
 
+/// Whether an answer says that passwords are taken over TLS alone.
+fn wants_tls(answer: &[u8]) -> bool
+    ensures { result ≡ wants_tls answer.now }
+{
+    answer.starts_with(b"-ERR [AUTH] Plaintext authentication disallowed")
+        || answer.starts_with(b"-ERR Plaintext authentication disallowed")
+}
+
+/// A server that wants TLS can be reached by a tunnel.
+fn plain_hint(found: &Findings<'_>) -> &'static str
+    ensures { result.now ≡ plain_hint found.now }
+{
+    if wants_tls(&found.said.answer) {
+        "this server takes passwords over TLS alone: use a tunnel, as getmail(1) says under TLS"
+    } else {
+        ""
+    }
+}
+
 /// A name or a password that is wrong can be mended.
 fn login_hint(found: &Findings<'_>) -> &'static str
     ensures { result.now ≡ login_hint found.now }
 {
-    if says_cause(&found.said.answer) {
+    if wants_tls(&found.said.answer) {
+        plain_hint(found)
+    } else if says_cause(&found.said.answer) {
         ""
     } else {
         "username or password is wrong; in the rc file a comment has a line of its own"
@@ -188,14 +259,16 @@ fn hint_text(settings: &Settings, fault: &Fault, found: &Findings<'_>) -> &'stat
     ensures { result.now ≡ hint_text settings.now fault.now found.now }
 {
     match fault {
-        Fault::ConnectionEnded | Fault::ReadFailed => tunnel_hint(settings, found),
+        Fault::ConnectionEnded | Fault::ReadFailed => ended_hint(settings, found),
         Fault::BadReply if found.said.command.is_empty() => {
             "no POP3 server answers there: most have port 110"
         }
+        Fault::Refused(Asked::User) => plain_hint(found),
         Fault::Refused(Asked::Pass) => login_hint(found),
         Fault::StoreRefused(Why::Missing) => missing_hint(&settings.dest),
         Fault::StoreRefused(Why::Refused) | Fault::SeenRefused => rights_hint(found),
         Fault::TextTooLong => "max_message_size passes such a message over",
+        Fault::BadSeen(_) => record_hint(&settings.dest),
         _ => "",
     }
 }

@@ -176,7 +176,7 @@ fn rehearse_with<R: Read + Drop, W: Write + Drop, E: Write, T: Write + Drop>(
 /// a writer for a trace, it gets the conversation. The exit status is 0 if the session came to its end;
 /// 1 if it was cut, or if the output failed or memory ran out, in which case none of the last lines are
 /// written and `err` gets the reason; 2 for opposite flags, with nothing written.
-pub fn rehearse<R: Read + Drop, W: Write + Drop, E: Write, T: Write + Drop>(
+pub fn rehearse_traced<R: Read + Drop, W: Write + Drop, E: Write, T: Write + Drop>(
     alloc: Global,
     flags: Flags,
     streams: (R, W),

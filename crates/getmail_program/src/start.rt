@@ -10,14 +10,17 @@ ghost use Rattle.getmail_program.specs.{
   Fetching.Runs,
   News.{IsSaid, name_or},
   Rehearsal.Rehearses,
-  Starting.{LeadsTo, Starts},
+  Starting.{LeadsTo, Starts, has_name_alone},
 };
+ghost use Rattle.clap.specs.Values.{kind_of};
+ghost use Rattle.command_line.specs.Rules.{is_asked_text};
 
 use crate::fetch::{Machine, is_unattended, run};
 use crate::news::{RunSaid, tell_news};
-use crate::news_file::HostPast;
-use crate::rehearsal::rehearse;
+use crate::news_file::{HostPast, NoPast};
+use crate::rehearsal::rehearse_traced;
 use crate::transcript::Transcript;
+use clap::Error;
 use fetch_rules::RcFault;
 use file_reading::ReadFile;
 use folder_store::{HostFile, HostFolder, HostMaildir};
@@ -28,6 +31,7 @@ use getmail_setup::{
 use mail_store::{FlatFile, MaildirDisk, MemoryFile, MemoryMaildir};
 use pop3_wire::{StreamWire, Wire};
 use std::alloc::{AllocError, Global};
+use std::cell::Cell;
 use std::env::{self, Env};
 use std::fs::File;
 use std::io::{ErrorKind, IsTerminal, Read, Stderr, Write};
@@ -151,10 +155,16 @@ where
     let rt = machine.rt;
     let journal = Journal::new(rt.alloc());
     let errors = errors_kept(&journal, reasons);
-    let status = run(machine, words, out, errors);
-    let past = HostPast::new(rt, machine.process, words);
+    let has_refused = Cell::new(false);
+    let status = run(machine, words, out, &has_refused, errors);
     let said = said_of(journal.take(), rc_path_of(rt, words));
-    tell_news(rt.alloc(), &past, &said, &mut Output::new(err));
+    let mut output = Output::new(err);
+    if has_refused.get() {
+        tell_news(rt.alloc(), &NoPast { rt }, &said, &mut output);
+        return status;
+    }
+    let past = HostPast::new(rt, machine.process, words);
+    tell_news(rt.alloc(), &past, &said, &mut output);
     status
 }
 
@@ -173,7 +183,7 @@ where
     ensures rehearses { Rehearses ⟦<TracedWire<'static, StreamWire<I, Transcript<O>>, Stderr> as Wire>⟧
         ⟦<MemoryMaildir as MaildirDisk>⟧ ⟦<MemoryFile as FlatFile>⟧ words.now.flags result }
 {
-    let status = rehearse(alloc, words.flags, streams, &mut errors.err.writer(), trace);
+    let status = rehearse_traced(alloc, words.flags, streams, &mut errors.err.writer(), trace);
     if status == 2 {
         let failure = Failure::Rc(RcFault::Contradiction);
         return fail(alloc, failure, None, errors);
@@ -206,6 +216,42 @@ pub fn arguments<'a, R: Env + AllocGlobal>(rt: &R) -> Result<Vec<String>, Failur
     }
 }
 
+/// What somebody is told who gave the name of an rc file without its flag.
+const NAME_HINT: &[u8] = b"getmail: the flag -r names an rc file: getmail -r NAME\n";
+
+/// Whether a command line has one word that is no option: it may be the name of an rc file.
+fn has_name_alone(arguments: &Result<Vec<String>, Failure<'_>>) -> bool
+    ensures { IfOk arguments.now (λ words. result ≡ has_name_alone (map string_bytes words.items)) }
+{
+    match arguments {
+        Ok(words) => match words.as_slice() {
+            [_, name] => !name.as_bytes().starts_with(b"-"),
+            _ => false,
+        },
+        Err(_) => false,
+    }
+}
+
+/// Shows why there are no words, and on a terminal that an rc file's name has a flag, if one may be meant. Returns the
+/// exit status, as `explain` does.
+fn explain_words<R: Print + Eprint + AllocGlobal>(
+    rt: &R,
+    error: &Error,
+    has_name: bool,
+    err: Stderr,
+) -> u8
+    ensures text { is_asked_text (kind_of error.now) ≡ true → result ≤ 1 }
+    ensures other { is_asked_text (kind_of error.now) ≡ false → result ≡ 2 }
+    ensures within { result ≤ 2 }
+{
+    let mut output = Output::new(err);
+    let status = explain(rt, error, &mut output);
+    if has_name && err.is_terminal() {
+        output.put(NAME_HINT);
+    }
+    status
+}
+
 /// Does what a command line asks for, and returns the exit status. The streams are standard input and output; `err` is
 /// standard error, to which a trace goes.
 pub fn obey_command_line<'a, R, I, O>(
@@ -229,13 +275,14 @@ where
     ensures failed { IfErr arguments.entry (λ failure. result ≡ status_of failure) }
 {
     let rt = machine.rt;
+    let has_name = has_name_alone(&arguments);
     let words = match arguments {
         Ok(arguments) => read_words(rt.alloc(), &arguments),
         Err(failure) => return tell(rt.alloc(), failure, &mut Output::new(err)),
     };
     let words = match words {
         Ok(words) => words,
-        Err(error) => return explain(rt, &error, &mut Output::new(err)),
+        Err(error) => return explain_words(rt, &error, has_name, err),
     };
     let is_terminal = err.is_terminal();
     let trace = if words.trace { Some(err) } else { None };
@@ -247,5 +294,5 @@ where
     if is_unattended(&words) {
         return run_unattended(machine, &words, streams.1, err, &reasons);
     }
-    run(machine, &words, streams.1, errors)
+    run(machine, &words, streams.1, &Cell::new(false), errors)
 }

@@ -6,14 +6,17 @@ ghost use Rattle.session_parts.specs.{
   Reasons.told_report,
   Telling.preview_text,
 };
-ghost use Rattle.getmail_program.specs.{Holding.HoldsSession, Telling.{Reported, is_idle, told_outcome}};
+ghost use Rattle.getmail_program.specs.{
+  Holding.HoldsSession,
+  Telling.{Reported, is_idle, is_none_known, told_outcome, unknown_in},
+};
 ghost use Rattle.getmail_setup.specs.Output.{Puts, PutsRest};
 
 use crate::doubt::said_ahead;
 use crate::teller::{Notes, Teller};
 use fetch_rules::{Settings, Step};
 use fetch_session::{
-    Account, Outcome, Preview, Report, pretend, preview_text, session_told, told_report,
+    Account, LeftOut, Outcome, Preview, Report, pretend, preview_text, session_told, told_report,
 };
 use getmail_setup::{Journal, Output, ShownWire};
 use mail_store::{FlatFile, MaildirDisk};
@@ -71,6 +74,30 @@ impl Told {
             Told::Ahead(_) => true,
         }
     }
+
+    /// How many messages were listed, if none is passed over because it is known; else 0.
+    pub fn unknown(&self) -> u32
+        ensures { result ≡ unknown_in self.now }
+    {
+        match self {
+            Told::Done(report) if is_none_known(report) => report.total,
+            _ => 0,
+        }
+    }
+}
+
+/// Whether all that a session passes over is left out, and so not known.
+fn is_none_known(report: &Report) -> bool
+    ensures { result ≡ is_none_known report.now }
+{
+    let LeftOut {
+        obstructed,
+        too_large,
+        past_limit,
+        repeated,
+    } = report.left_out;
+    let too_many = u64::from(past_limit) + u64::from(repeated);
+    u64::from(report.skipped) == u64::from(obstructed) + u64::from(too_large) + too_many
 }
 
 /// Writes what a preview says.

@@ -32,13 +32,13 @@ pub record IsEmpty (notes : Notes) : Type 0 where
   pub has_met : notes.has_met ≡ false
   pub lacks_memory : notes.lacks_memory ≡ false
 
--- the number of a message that is over the size limit
-abbrev pub number_for : Option Skip → ℕ → Option ℕ
-number_for (Some TooLarge) number = Some number
-number_for skip number = None
+-- the number of a message that is over the size limit and that the run doesn't delete
+abbrev pub number_for : Option Skip → Bool → ℕ → Option ℕ
+number_for (Some TooLarge) false number = Some number
+number_for skip delete number = None
 
 abbrev pub too_large : Step → Option ℕ
-too_large step = number_for step.skip step.number
+too_large step = number_for step.skip step.delete step.number
 
 -- the front of a path up to where a mark first stands in it, if one is known and does
 abbrev pub IsUnmarked : List ℕ → List ℕ → List ℕ → Type 0

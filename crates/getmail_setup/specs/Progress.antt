@@ -1,7 +1,7 @@
 -- What the line of progress says, and when it is shown.
 use Rattle.std.specs.{
   Prelude.{◌≡◌, ◌⊎◌, ◌+◌, ◌-◌, ◌/◌, ◌%◌, ◌^◌, ◌==◌, ◌&&◌, ◌||◌, ℕ, Bool, false, true, List, [], ◌∷◌, ◌++◌, codes},
-  Prelude.{Err, None, Ok, Option, Some, Result, drop, length, min, nat_le, nat_lt, slice_get, unwrap_or},
+  Prelude.{Err, None, Ok, Option, Some, Result, length, min, nat_le, nat_lt, slice_get, unwrap_or},
   Prelude.if◌then◌else◌,
   Fmt.decimal,
 }
@@ -112,13 +112,14 @@ abbrev pub due_after : Progress → Option Asked → ℕ
 due_after p (Some (Retr number)) = if nat_le p.due p.octets then min (p.octets + 65536) (2 ^ 64 - 1) else p.due
 due_after p asked = p.due
 
--- as many blanks as the longest line has characters
-abbrev pub blanks : List ℕ
-blanks = codes "                                                "
-
--- a line that is written over the last one
+-- a line that is written over the last one: ESC [ ? 7 l has the terminal wrap no line, ESC [ K erases what follows the
+-- text, and ESC [ ? 7 h has it wrap lines again
 abbrev pub line_over : List ℕ → List ℕ
-line_over text = codes "\r" ++ (text ++ drop (min (length text) 48) blanks)
+line_over text = (13 ∷ 27 ∷ codes "[?7l") ++ (text ++ (27 ∷ (codes "[K" ++ (27 ∷ codes "[?7h"))))
+
+-- what erases a line
+abbrev pub erased : List ℕ
+erased = 13 ∷ 27 ∷ codes "[K"
 
 -- a line was written, or a front of it, since the rest was refused or memory ran out; or nothing was, as it isn't due
 abbrev pub WritesIf : Bool → Option (List ℕ) → Option (List ℕ) → List ℕ → Type 0
@@ -146,7 +147,7 @@ ShowsDue {W} {S} contents (Some screen) old part new = (screen' : S) × (due : B
 abbrev pub Wipes : {S : Type 0} → (S → Option (List ℕ)) → Option S → Bool → Option S → Bool → Type 0
 Wipes contents None was screen' is = (screen' ≡ None) × (is ≡ was)
 Wipes {S} contents (Some screen) was screen' is = (is ≡ false) × ((left : S) × (screen' ≡ Some left)
-    × WritesIf was (contents screen) (contents left) (line_over [] ++ codes "\r"))
+    × WritesIf was (contents screen) (contents left) erased)
 
 -- a link shows here how far a fetch is of which nothing is known yet
 pub record IsShownOn {W S : Type 0} (screen : Option S) (wire : W) (shown : ShownWire W S) : Type 0 where
@@ -154,6 +155,7 @@ pub record IsShownOn {W S : Type 0} (screen : Option S) (wire : W) (shown : Show
   pub place : shown.screen ≡ screen
   pub progress : KnowsNothing shown.progress
   pub unwritten : shown.is_shown ≡ false
+  pub none : shown.unread ≡ 0
 
 -- where the line is shown, if it is and a report is wanted
 abbrev pub screen_for : {E : Type 0} → Errors E → Settings → Option E

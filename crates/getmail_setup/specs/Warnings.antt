@@ -1,6 +1,6 @@
 -- The warnings of an rc file.
 use Rattle.std.specs.{
-  Prelude.{◌≡◌, ◌⊎◌, ◌==◌, ◌&&◌, ◌||◌, ◌++◌, ℕ, Bool, false, true, not, List, [], None, Some, codes},
+  Prelude.{◌≡◌, ◌⊎◌, ◌==◌, ◌&&◌, ◌||◌, ◌++◌, ℕ, Bool, false, true, is_some, not, List, [], None, Some, codes},
   Prelude.{Err, Ok, Result},
   Fmt.decimal,
   Fs.metadata_mode,
@@ -10,9 +10,11 @@ use Rattle.std.specs.{
   declared.fs.attrs.Metadata.Metadata,
 }
 use Rattle.rc_file.specs.{
+  FileRows.rows_of,
+  OtherKey.other_value,
   RcText.warning_text,
   WarningSearch.warning_of,
-  declared.{settings.Settings.Settings, warning.Warning.Warning},
+  declared.{flags.Flags.Flags, settings.Settings.Settings, warning.Warning.Warning},
 }
 use Rattle.system_calls.specs.Line.{IsTraceLine}
 use Rattle.getmail_setup.specs.{Failures.cause_line, Listed.without_end, Places.is_socket}
@@ -50,3 +52,19 @@ IsToldPort settings false text = text ≡ []
 IsToldPort settings true text = (text ≡ []) ⊎ (text ≡ cause_line (Some settings) []
     (codes "warning: port "
     ++ (decimal settings.port ++ codes " is for TLS, which getmail doesn't speak: use a tunnel")))
+
+-- neither an rc file nor a flag says whether mail that was delivered is fetched again
+abbrev pub leaves_read_all : Flags → List ℕ → Bool
+leaves_read_all flags bytes =
+    not (is_some (other_value (codes "options") (codes "read_all") (rows_of bytes)))
+    && (not flags.all && not flags.new_only)
+
+-- then it is: of that is warned
+abbrev pub all_warning : Settings → Bool → List ℕ
+all_warning settings false = []
+all_warning settings true = cause_line (Some settings) (codes "warning: read_all is not set: ") (codes
+    "each run fetches all mail again, and an mboxrd file gets it again; read_all = false in [options] ends that")
+
+-- the warning is written, or memory ran out for finding out
+abbrev pub IsToldAll : Settings → Bool → List ℕ → Type 0
+IsToldAll settings leaves text = (text ≡ all_warning settings leaves) ⊎ (text ≡ [])

@@ -66,17 +66,17 @@ fn none_left(alloc: Global) -> LeftOut
     }
 }
 
-/// The number of a message that is over the size limit.
+/// The number of a message that is over the size limit and that the run doesn't delete.
 fn too_large(step: &Step) -> Option<u32>
     ensures { result ≡ too_large step.now }
 {
     match step.skip {
-        Some(Skip::TooLarge) => Some(step.number),
+        Some(Skip::TooLarge) if !step.delete => Some(step.number),
         _ => None,
     }
 }
 
-/// The numbers of the messages of a plan that are over the size limit.
+/// The numbers of the messages of a plan that are over the size limit and stay on the server.
 fn too_large_in(alloc: Global, plan: &[Step]) -> Result<Vec<u32>, AllocError>
     ensures { IfOk result (λ numbers. numbers.items ≡ filter_map too_large plan.now) }
 {

@@ -10,7 +10,8 @@ ghost use Rattle.getmail_setup.specs.{
   Output.Puts,
   Places.{AreAsked, AreFor, IsSetUp, IsToldPath, account_path, account_digits, path_in, folder_path, rc_room},
   Places.whole_path,
-  Warnings.{IsOthersText, IsToldOthers, IsToldPort, has_tls_port, says_open, warnings_text},
+  Warnings.{IsOthersText, IsToldAll, IsToldOthers, IsToldPort, all_warning, has_tls_port, leaves_read_all},
+  Warnings.{says_open, warnings_text},
 };
 
 use crate::connection::is_socket;
@@ -25,6 +26,7 @@ use crate::words::Words;
 use fetch_rules::{Dest, Flags, Settings, Warning, override_with, read_rc, warning_text};
 use file_reading::ReadFile;
 use mail_store::{AccountId, account_id};
+use rc_file::{RcFault, read_other};
 use std::alloc::{AllocError, Global};
 use std::fs::{self, Metadata};
 use std::io::{self, Write};
@@ -40,6 +42,12 @@ const OTHERS: &str = "warning: others than its owner may read or write ";
 
 /// What mends that.
 const PRIVATE: &[u8] = b": chmod 600 ends that";
+
+/// The warning of mail that comes again because nothing says otherwise, and what it costs.
+const UNSET: &str = "warning: read_all is not set: ";
+
+const ALL_AGAIN: &[u8] =
+    b"each run fetches all mail again, and an mboxrd file gets it again; read_all = false in [options] ends that";
 
 /// What the warning of a port for TLS ends with.
 const NO_TLS: &str = "which getmail doesn't speak: use a tunnel";
@@ -159,6 +167,48 @@ fn warn_of_port<E: Write>(alloc: Global, settings: &Settings, errors: &mut Error
     errors.err.put(b"");
 }
 
+/// Whether neither an rc file nor a flag says if mail that was delivered is fetched again.
+fn leaves_read_all(alloc: Global, bytes: &[u8], flags: Flags) -> Result<bool, RcFault>
+    ensures { IfOk result (λ leaves. leaves ≡ leaves_read_all flags bytes.now) }
+{
+    let value = read_other(alloc, bytes, "options", "read_all")?;
+    Ok(value.is_none() && !flags.all && !flags.new_only)
+}
+
+/// Warns of mail that comes again because nothing says otherwise, if so.
+fn warn_of_all<E: Write>(settings: &Settings, is_left: bool, errors: &mut Errors<'_, E>)
+    ensures { Puts E.contents errors.old.err (all_warning settings.now is_left) errors.new.err }
+{
+    if !is_left {
+        return errors.err.put(b"");
+    }
+    tell_reason(Some(settings), UNSET, ALL_AGAIN, &mut errors.err);
+    errors.close(Subject::Notice);
+}
+
+/// Warns of what settings may cost that were read from an rc file: a password that others may read, a port on which
+/// nobody answers, mail that comes again.
+fn warn_of_settings<R: Files + AllocGlobal, E: Write>(
+    rt: &R,
+    file: RcFile<'_>,
+    flags: Flags,
+    settings: &Settings,
+    errors: &mut Errors<'_, E>,
+)
+    ensures { (others port all : List ℕ) × IsToldOthers file.entry.path.now settings.now others
+        × IsToldPort settings.now (has_tls_port settings.now) port
+        × IsToldAll settings.now (leaves_read_all flags file.entry.bytes.now) all
+        × Puts E.contents errors.old.err (others ++ (port ++ all)) errors.new.err }
+{
+    let alloc = rt.alloc();
+    warn_of_others(rt, file.path, settings, errors);
+    warn_of_port(alloc, settings, errors);
+    match leaves_read_all(alloc, file.bytes, flags) {
+        Ok(is_left) => warn_of_all(settings, is_left, errors),
+        Err(_) => errors.err.put(b""),
+    }
+}
+
 /// The settings that an rc file of these octets means, changed by the flags. Its warnings are written.
 fn meaning_of<'a, E: Write>(
     alloc: Global,
@@ -199,16 +249,17 @@ fn settings_of<'a, R: Files + AllocGlobal, S: ReadFile, E: Write>(
         Err(error) => return Err(failure_of(error, Failure::CannotRead)),
     };
     let alloc = rt.alloc();
-    let settings = meaning_of(alloc, bytes.as_slice(), words.flags, errors);
+    let flags = words.flags;
+    let settings = meaning_of(alloc, bytes.as_slice(), flags, errors);
     if errors.says_why {
+        let file = RcFile {
+            path,
+            bytes: bytes.as_slice(),
+        };
         match &settings {
-            Ok(settings) => {
-                warn_of_others(rt, path, settings, errors);
-                warn_of_port(alloc, settings, errors);
-            }
+            Ok(settings) => warn_of_settings(rt, file, flags, settings, errors),
             Err(Failure::Rc(fault)) => {
-                let bytes = bytes.as_slice();
-                let reason = reason_in(alloc, words, RcFile { path, bytes }, fault);
+                let reason = reason_in(alloc, words, file, fault);
                 errors.reasons.rule.set(reason.ok());
             }
             Err(_) => {}

@@ -13,11 +13,8 @@ use pop3_wire::{Note, Wire, WireDown};
 use std::alloc::{AllocError, Global};
 use std::io::Write;
 
-/// As many blanks as the longest line has characters.
-const BLANKS: &[u8] = b"                                                ";
-
-/// What wipes the line, and begins another one in its place.
-const WIPED: &[u8] = b"\r                                                \r";
+/// What erases the line, so that another one can begin in its place.
+const ERASED: &[u8] = b"\r\x1b[K";
 
 /// A link that passes each call on, and shows on a line of `screen` which message is coming and how
 /// much of it has come. The line is rewritten in place. Without a screen nothing is shown. A write
@@ -30,18 +27,21 @@ pub struct ShownWire<W, S> {
     progress: Progress,
     is_shown: bool,
     listed: Option<Listed>,
+    /// How many octets came since a part of the conversation was noted: of no whole line, if that was a command.
+    unread: u64,
 }
 
-/// The octets of a line that is written over the last one; no line is longer than 48 characters.
+/// The octets of a line that is written over the last one. The terminal doesn't wrap it: a narrow one shows its front.
 fn line_over(alloc: Global, text: &str) -> Result<Vec<u8>, AllocError>
     ensures { IfOk result (λ line. line.items ≡ line_over text.now) }
 {
     let text = text.as_bytes();
-    let rest = &BLANKS[text.len().min(48)..];
-    [b"\r".as_slice(), text, rest].concat(alloc)
+    let end = b"\x1b[K\x1b[?7h".as_slice();
+    [b"\r\x1b[?7l".as_slice(), text, end].concat(alloc)
 }
 
-/// Writes a line over the last one, if there is memory for it.
+/// Writes a line over the last one, if there is memory for it: in one call, so that a run that is killed leaves the
+/// terminal as it was.
 fn write_line<S: Write>(alloc: Global, screen: &mut S, text: &str)
     ensures { WritesFront (S.contents screen.old) (S.contents screen.new) (line_over text.now) }
 {
@@ -84,6 +84,7 @@ impl<W: Wire, S: Write> ShownWire<W, S> {
             progress: Progress::new(alloc),
             is_shown: false,
             listed: None,
+            unread: 0,
         }
     }
 
@@ -93,6 +94,13 @@ impl<W: Wire, S: Write> ShownWire<W, S> {
         ensures listed { IsSomeAnd self.new.listed (IsFresh limit) }
     {
         self.listed = Some(Listed::new(self.alloc, limit));
+    }
+
+    /// How many octets came since a part of the conversation was noted.
+    pub fn unread(&self) -> u64
+        ensures { result ≡ self.now.unread }
+    {
+        self.unread
     }
 
     /// The rows that were kept, if any were to be.
@@ -125,7 +133,7 @@ impl<W: Wire, S: Write> ShownWire<W, S> {
     {
         if let Some(screen) = &mut self.screen {
             if self.is_shown {
-                let _ = write_octets(screen, WIPED);
+                let _ = write_octets(screen, ERASED);
                 self.is_shown = false;
             }
         }
@@ -144,10 +152,15 @@ impl<W: Wire, S: Write> Wire for ShownWire<W, S> {
     }
 
     fn recv(&mut self, buf: &mut [u8]) -> Result<usize, WireDown> {
-        self.wire.recv(buf)
+        let answer = self.wire.recv(buf);
+        if let Ok(count) = answer {
+            self.unread = self.unread.saturating_add(count as u64);
+        }
+        answer
     }
 
     fn note(&mut self, part: Note<'_>) {
+        self.unread = 0;
         self.show(part);
         // A line of the report may follow a message.
         if let Note::Body { ended: true, .. } = part {

@@ -10,6 +10,7 @@ returns-clause-told g c =
     let last = puts_both _ _ _ _ _ left.0 unwritten left.2 in
     record {
       idle = c.is_idle.ensures;
+      unknown = c.unknown.ensures;
       status = c.status_when-status.ensures.status ∙ ap (λ outcome. status_when outcome c.args.refusal) c.outcome-outcome.ensures;
       reasons = cut.reasons;
       are_reasons = said_on _ _ _ _ _ _ _ _ _ cut last;

@@ -5,4 +5,5 @@ pub returns : goal.returns
 returns g c =
     takes_both _ _ _ _ _ _ c.tell_rests.ensures
     (takes_both _ _ _ _ _ _ c.tell_obstructions.ensures
-    (takes_both _ _ _ _ _ _ c.tell_store_refusal.ensures c.tell_unflushed.ensures))
+    (takes_both _ _ _ _ _ _ c.tell_store_refusal.ensures
+    (takes_both _ _ _ _ _ _ c.tell_unflushed.ensures c.tell_new_ids.ensures)))

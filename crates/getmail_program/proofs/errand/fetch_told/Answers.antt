@@ -1,5 +1,5 @@
 use Rattle.std.proofs.Common.{◌∙◌}
-use Rattle.getmail_program.proofs.errand.fetch_into.Goals as goal
+use Rattle.getmail_program.proofs.errand.fetch_told.Goals as goal
 
 pub returns-clause-fetched : goal.returns-clause-fetched
 returns-clause-fetched g c =

@@ -1,6 +1,6 @@
 use Rattle.std.proofs.Common.{◌∙◌, ap, arith, refl}
 use Rattle.rc_file.specs.Flags.{overridden}
-use Rattle.getmail_program.proofs.rehearsal.rehearse.Goals as goal
+use Rattle.getmail_program.proofs.rehearsal.rehearse_traced.Goals as goal
 
 pub returns-in-Ok-override_with-clause-rehearses : goal.returns-in-Ok-override_with-clause-rehearses
 returns-in-Ok-override_with-clause-rehearses g c = record {
