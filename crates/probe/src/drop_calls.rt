@@ -11,6 +11,7 @@ use folder_drop::{
     FileNumber, FileWay, Folder, FoldersLook, Found, MailFiles, MaildirFolders, MemoryFiles,
 };
 use std::alloc::Global;
+use std::env::Env;
 use std::hash::RandomState;
 use std::io::{self, Read, Write};
 use std::random::RandomSource;
@@ -125,7 +126,7 @@ impl<D: MailFiles> DropPlayer<D> {
     fn tell(&mut self, answers: &mut Vec<u8>, answer: io::Result<Found>) -> Result<()> {
         match answer {
             Ok(found) if found.is_regular => {
-                let place = self.place_of_number(found.number)?;
+                let place = self.place_of_number(found.stamp.number)?;
                 writeln!(answers, "file {place} {}", found.stamp.length)?;
                 Ok(())
             }
@@ -302,7 +303,7 @@ fn play_in_memory(rt: &HostRuntime, list: &str, answers: &mut Vec<u8>) -> Result
 }
 
 /// Makes the calls of a list on the machine.
-fn play_on_machine<R: Files + Clock + RandomSource + AllocGlobal + Clone + Drop>(
+fn play_on_machine<R: Files + Env + Clock + RandomSource + AllocGlobal + Clone + Drop>(
     rt: &HostRuntime,
     system: &System<'_, R>,
     maildir: &str,

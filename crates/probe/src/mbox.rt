@@ -24,7 +24,7 @@ pub fn append<F: FlatFile>(rt: &HostRuntime, path: &str, file: &mut F, count: u3
     let beside = format!(in rt.alloc(); "{path}.text")?;
     let text = text_of(rt, beside.as_str())?;
     for _ in 0..count {
-        append_entry(file, Vec::from_slice(rt.alloc(), &text)?)?;
+        append_entry(rt.alloc(), file, &text)?;
     }
     println!(rt; "{count}")?;
     Ok(())

@@ -1,7 +1,7 @@
 //! Why a call didn't do what was wanted.
 
 use fetch_rules::{RcFault, SeenFault};
-use mail_store::{EntryFault, StoreFault};
+use mail_store::StoreFault;
 use mail_terms::ListingFault;
 use std::alloc::{AllocError, AllocFailed};
 use std::io;
@@ -20,15 +20,6 @@ pub type Result<T> = std::result::Result<T, Trouble>;
 impl From<StoreFault> for Trouble {
     fn from(fault: StoreFault) -> Trouble {
         Trouble::Store(fault)
-    }
-}
-
-impl From<EntryFault> for Trouble {
-    fn from(fault: EntryFault) -> Trouble {
-        match fault {
-            EntryFault::Nothing(fault) => Trouble::Store(fault),
-            EntryFault::Front => Trouble::Store(StoreFault::Refused),
-        }
     }
 }
 

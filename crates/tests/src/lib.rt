@@ -9,6 +9,8 @@ mod folder_drop_tests;
 #[cfg(test)]
 mod folder_store_tests;
 #[cfg(test)]
+mod getmail_program_tests;
+#[cfg(test)]
 mod local_fetch_tests;
 #[cfg(test)]
 mod no_memory_tests;

@@ -114,8 +114,8 @@ pub fn fetch(
     (user, pass): (Vec<u8>, Vec<u8>),
 ) -> (Report, MemoryDrop) {
     let server = Server::new(alloc, maildrop, user, pass);
-    let (report, wire) = fetch_local(alloc, account, server, 0);
-    (report, wire.into_inner().into_drop())
+    let (report, server) = fetch_local(alloc, account, server, 0);
+    (report, server.into_drop())
 }
 
 /// A link to a new server over this maildrop, which passes `passes` calls.
