@@ -13,7 +13,7 @@
 #   make install    puts programs, man pages, completions, units and examples below PREFIX (/usr/local), and builds only
 #                   what bin/ lacks; `make uninstall` takes them away
 #   make dist       an archive and a Debian package of what bin/ has, for machines without the toolchain
-#                   (both refuse programs that were proved from other sources than these)
+#                   (both refuse programs that were proved from other sources than these, or were changed since)
 #   make notices    prints the notices of the kit's crates that the programs contain: NOTICES
 #   make bench      builds the programs, then prints speed and memory as ratios; not in the gate
 
@@ -34,12 +34,12 @@ need_rt = $(need_sources)$(need_python)$(if $(shell command -v rt),,$(error `rt`
 all:
 	@$(need_rt)./build.py getmail popd
 	install -D -m 755 -t bin crates/getmail/out/getmail crates/popd/out/popd
-	install -m 644 -t bin crates/getmail/out/getmail.sources crates/popd/out/popd.sources
+	install -m 644 -t bin crates/getmail/out/getmail.sha256 crates/popd/out/popd.sha256
 
 getmail popd:
 	@$(need_rt)./build.py $@
 	install -D -m 755 -t bin crates/$@/out/$@
-	install -m 644 -t bin crates/$@/out/$@.sources
+	install -m 644 -t bin crates/$@/out/$@.sha256
 
 demo:
 	@$(need_python)$(if $(and $(wildcard bin/getmail),$(wildcard bin/popd)),,$(need_rt))python3 examples/demo/run.py

@@ -1,8 +1,8 @@
 #!/usr/bin/env python3
 """Proves the crates that programs are made of, and builds the programs.
 
-    ./build.py getmail popd               # `make` then copies each program, and its checksum, into bin/
-    ./build.py --unchanged getmail popd   # fails if bin/ has programs that were proved from other sources than these
+    ./build.py getmail popd               # `make` then copies each program, and its checksums, into bin/
+    ./build.py --unchanged getmail popd   # fails if bin/ has other programs than were built of these sources
 
 `rt ci` does both, in a copy that has these crates without their mutants: as many at once as there are processors and memory.
 Some kits keep what they have proved, for the next run here and for the gate. `tests` builds and runs the tests of the libraries.
@@ -52,12 +52,20 @@ def checksum(program, top=TOP):
     return hashlib.sha256("\n".join([*crates.values(), *sums]).encode()).hexdigest()
 
 
+def checksums(file, sources):
+    """What is kept beside a program: the SHA-256 of its file, and that of its sources."""
+    return f"{hashlib.sha256(file.read_bytes()).hexdigest()} program\n{sources} sources\n"
+
+
 def refuse_changed(programs):
-    """Ends with a line that names the first program of bin/ that wasn't proved from these sources."""
+    """Ends with a line that names the first program of bin/ that wasn't proved from these sources, or isn't what was built."""
     for program in programs:
-        kept = TOP / "bin" / f"{program}.sources"
-        if not kept.is_file() or kept.read_text().strip() != checksum(program):
+        built, kept = TOP / "bin" / program, TOP / "bin" / f"{program}.sha256"
+        told, sources = kept.read_text() if kept.is_file() else "", checksum(program)
+        if f"{sources} sources" not in told.splitlines():
             sys.exit(f"bin/{program} was not proved from these sources: `make` proves and builds it")
+        if told != checksums(built, sources):
+            sys.exit(f"bin/{program} is not the program that was built: `make` proves and builds it")
 
 
 def told(crates, room, text, seconds):
@@ -87,13 +95,13 @@ def prove(crates, room):
 
 
 def keep(crate, room, sources):
-    """Puts the built program, and the checksum of the sources that were proved, into the crate's own folder."""
+    """Puts the built program, its checksum and that of the sources that were proved into the crate's own folder."""
     name = "tests_tests" if crate == "tests" else crate
     out = TOP / "crates" / crate / "out"
     out.mkdir(exist_ok=True)
     shutil.copy(room / "crates" / crate / "out" / name, out / f"{name}.new")
     os.replace(out / f"{name}.new", out / name)
-    (out / f"{name}.sources").write_text(f"{sources}\n")
+    (out / f"{name}.sha256").write_text(checksums(out / name, sources))
 
 
 def main():

@@ -5,11 +5,11 @@
 #   PREFIX=$HOME/.local ./install.sh    into another place
 #   ./install.sh --remove               takes away what was installed, with the same PREFIX
 #
-# With DESTDIR every file goes below that folder. Nothing but these files is written.
-# Nothing is written through a link (-C).
-set -euC
+# With DESTDIR every file goes below that folder. Nothing but these files is written, and a temporary folder that goes at the end.
+set -eu
 umask 022
-cd "$(dirname "$0")"
+# With CDPATH, `cd` may go to another folder of that name.
+CDPATH='' cd -- "$(dirname -- "$0")"
 
 prefix=${PREFIX:-/usr/local}
 prefix=${prefix%/}
@@ -37,18 +37,27 @@ if [ "${1:-}" != --remove ]; then
     for name in getmail popd; do
         [ -f "bin/$name" ] || { echo "install.sh: bin/$name is not there: \`make\` builds it, and archives have it" >&2; exit 2; }
     done
+    case $prefix in
+        *[[:space:][:cntrl:]\\\"\'\`\$\&\|\;\<\>\(\)\*\?\[\]\{\}\#%:!]*)
+            echo "install.sh: PREFIX has a space, or a letter that means something in units, crontabs or man pages: $prefix" >&2
+            exit 2 ;;
+    esac
+    made=$(mktemp -d)
+    trap 'rm -rf "$made"' EXIT
+    trap 'exit 1' HUP INT TERM
 fi
 
-# placed MODE PLACE COMMAND: what the command prints takes the place of what is there, as a whole. If that is a link, the file
-# that it leads to stays, and if it is a program that runs, it runs on.
+# placed MODE PLACE COMMAND: what the command prints takes the place of what is there, as a whole. If that is a link, what it
+# leads to stays, and if it is a program that runs, it runs on. The file gets its mode in a folder of this script's own: where
+# another user may write, a link may come into its place at any moment, which `cp` and `mv` don't follow so.
 placed() {
     mode=$1 target=$2
     shift 2
     mkdir -p "$(dirname "$target")"
-    rm -f "$target.new"
-    "$@" >"$target.new"
-    chmod "$mode" "$target.new"
-    mv -f "$target.new" "$target"
+    "$@" >"$made/file"
+    chmod "$mode" "$made/file"
+    cp -T --remove-destination "$made/file" "$target.new"
+    mv -fT "$target.new" "$target"
 }
 
 # put MODE FILE PLACE
@@ -100,6 +109,11 @@ remove_first() {
 }
 
 if [ "${1:-}" = --remove ]; then
+    cat <<'END'
+What a user has enabled goes on, and fails. Each user has to disable these units, by `systemctl --user disable --now UNIT`:
+    getmail.timer getmail@FILE.timer getmail-tunnel.socket popd.service popd.socket
+and to take the lines of getmail out of `crontab -e`.
+END
     each_file remove_first remove
     rmdir "$docs" 2>/dev/null || true
 else

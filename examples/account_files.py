@@ -73,6 +73,17 @@ def shown(path):
     return "".join(letter if letter.isprintable() else letter.encode("unicode_escape").decode() for letter in text)
 
 
+def words_of(parser):
+    """What the command line says. Its first `--` ends the options, and a later one is a word like any other."""
+    given = sys.argv[1:]
+    first = given.index("--") + 1 if "--" in given else len(given)
+    # argparse takes out each `--`; no word of a command line has a NUL.
+    asked = parser.parse_args([*given[:first], *("\0" if word == "--" else word for word in given[first:])])
+    for name, value in vars(asked).items():
+        setattr(asked, name, "--" if value == "\0" else value)
+    return asked
+
+
 def take_any_letter():
     """No path is refused by standard output, whatever its encoding is."""
     if sys.stdout is not None:
@@ -166,12 +177,35 @@ def rename(old, new):
         raise
 
 
-def write_whole(path, content, replaces=False):
+def marked(front):
+    """A name that nothing has. getmail knows `RECORD.tmp` and, in `tmp`, the digest with such an end as an account's own, and
+    removes it after an hour, if a killed script has left it."""
+    return f"{front}.P{os.getpid()}R{secrets.token_hex(8)}"
+
+
+def check_renames(front):
+    """A file that nothing else has, named so, can get another name there without replacing anything."""
+    one, other = marked(front), marked(front)
+    try:
+        with opened(one, os.O_WRONLY | os.O_CREAT | os.O_EXCL):
+            pass
+        try:
+            rename(one, other)
+        except OSError as error:
+            raise Refused(f"{shown(os.path.dirname(front))}: its file system has neither a rename that replaces nothing nor links "
+                          f"({error.strerror}): copy it to another one first") from None
+    finally:
+        for path in (one, other):
+            with contextlib.suppress(OSError):
+                os.unlink(path)
+
+
+def write_whole(path, content, replaces=False, record=None):
     """Makes a file, whole or not at all, in a place that is free, or that `replaces` says is this account's own.
 
-    What a killed script leaves beside it has a name that getmail knows as one of its own, and removes after an hour.
+    It is written beside the record, which is `path` itself unless another one is named.
     """
-    beside = f"{path}.tmp.P{os.getpid()}R{secrets.token_hex(8)}"
+    beside = marked(f"{record or path}.tmp")
     try:
         with opened(beside, os.O_WRONLY | os.O_CREAT | os.O_EXCL) as number:
             with open(number, "wb", closefd=False) as file:

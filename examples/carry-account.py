@@ -1,11 +1,15 @@
 #!/usr/bin/env python3
 """Carries an account of getmail over to another server, port or user name, so that nothing is fetched again.
 
-Without it another server (a socket in place of 127.0.0.1, a provider's new name) is another account to getmail. First an
-empty file `carried-OLD-NEW` says that both are one. Then both records get the rows of both, each file of new and cur gets
-its new name, and last what was cut off from an mboxrd file. The old record stays, so that a run with the old rc file
-fetches nothing that was carried. The script may be killed at any moment, and run again after runs of either account: it
-goes on. If the new account has anything of its own before the first step, it is another one, and nothing is changed.
+Without it another server (a socket in place of 127.0.0.1, a provider's new name) is another account to getmail. First the
+new record is written as `carried-OLD-NEW.record`, an empty file `carried-OLD-NEW` says that both accounts are one, and the
+record gets its place. Then the old record gets the rows of both, each file of new and cur gets its new name, and last what
+was cut off from an mboxrd file. The old record stays, so that a run with the old rc file fetches nothing that was carried.
+
+The script may be killed at any moment, and run again after runs of either account: it goes on. Only a run of the new account
+before its record has its place fetches all mail, which is put right in a Maildir; an mboxrd file may have it twice then, and the
+script says so. If the new account has anything of its own before the first step, it is another one, and nothing is changed,
+unless --same-account says that both are one, and each message that both have in a Maildir has one text.
 """
 
 import argparse
@@ -19,8 +23,8 @@ import time
 from typing import NamedTuple
 
 sys.dont_write_bytecode = True
-from account_files import (Record, Refused, add_account, add_folder, content_of, digest_of, flush, flush_names, is_there, locked,
-                           opened, read_record, record_of, rename, shown, take_any_letter, write_whole)
+from account_files import (Record, Refused, add_account, add_folder, check_renames, content_of, digest_of, flush, flush_names, is_there,
+                           locked, opened, read_record, record_of, rename, shown, take_any_letter, words_of, write_whole)
 
 PARTS = ("cur", "new")
 # A digest, a legal unique-id in hexadecimal, and then the file's size and its reader's flags.
@@ -47,8 +51,12 @@ class Maildir:
     """What two accounts have in a Maildir in which mail readers may be at work; without a path, nothing."""
 
     def __init__(self, path, old, new):
+        self.path, self.old, self.new = path, old, new
         self.folders = [os.path.join(path, part) for part in PARTS] if path is not None else []
-        self.old, self.new = old, new
+
+    def check_renames(self):
+        if self.path is not None:
+            check_renames(os.path.join(self.path, "tmp", self.new))
 
     def times(self):
         """When the names of each folder changed last."""
@@ -150,12 +158,16 @@ def again(attempt):
 class Carry:
     """An account that is carried over to another one, between runs of both."""
 
-    def __init__(self, folder, old, new, maildir):
-        self.folder, self.mark = folder, os.path.join(folder, f"carried-{old}-{new}")
-        self.records = [os.path.join(folder, f"seen-{digest}") for digest in (old, new)]
+    def __init__(self, asked, old, new):
+        self.folder, self.is_same = asked.g, asked.same_account
+        self.mark = os.path.join(self.folder, f"carried-{old}-{new}")
+        # The new record until it has its place: as long as it is here, the new account may have had runs of its own.
+        self.waiting = f"{self.mark}.record"
+        self.records = [os.path.join(self.folder, f"seen-{digest}") for digest in (old, new)]
         self.rests = [f"{record}.rest" for record in self.records]
-        self.is_one = is_one_account(folder, old, new)
-        self.maildir = Maildir(maildir, old, new)
+        self.is_marked = is_one_account(self.folder, old, new)
+        self.is_one = self.is_marked or is_there(self.waiting)
+        self.maildir = Maildir(asked.maildir, old, new)
         self.has_begun = False
 
     def read(self, record):
@@ -169,15 +181,32 @@ class Carry:
         return found
 
     def check_another(self, old, new):
-        """The new account has nothing yet, unless both are known to be one."""
-        if self.is_one:
+        """The new account has nothing yet, unless both are known to be one, or said to be one."""
+        if self.is_one or self.is_same and self.has_same(old, new):
             return
         for there, here in zip([self.records[1], self.rests[1]], [self.records[0], self.rests[0]]):
             if is_there(there):
-                raise Refused(f"{shown(there)} is there already, the record of another account: {shown(here)} stays")
+                raise Refused(f"{shown(there)} is there already, the record of another account: {shown(here)} stays. {self.remedy()}")
         for message in new:
             here = next((one.path for one in old if one.uid == message.uid), self.records[0])
-            raise Refused(f"{shown(message.path)} is there already, a message of another account: {shown(here)} stays")
+            raise Refused(f"{shown(message.path)} is there already, a message of another account: {shown(here)} stays. "
+                          f"{self.remedy()}")
+
+    def remedy(self):
+        """What can be done if getmail has run for the new account before this script."""
+        if not self.maildir.folders:
+            return "If it is the same one, getmail has fetched all mail with the new rc file, and nothing has to be carried"
+        if not self.is_same:
+            return "If it is the same one, and getmail has run with the new rc file before this, add --same-account"
+        return "The Maildir has no message of both, so nothing shows that they are one"
+
+    def has_same(self, old, new):
+        """Whether both accounts have messages in common. If the texts of one differ, they are two accounts."""
+        pairs = [(one.path, other.path) for one in old for other in new if one.uid == other.uid]
+        for one, other in pairs:
+            if not is_same(one, other):
+                raise Refused(f"{shown(one)} and {shown(other)} are different, so these are two accounts")
+        return bool(pairs)
 
     def check_free(self, one, other):
         """Nothing is lost if one path gets the name of the other."""
@@ -185,35 +214,62 @@ class Carry:
             raise Refused(f"{shown(other)} is there already, with other octets than {shown(one)}: look at both, and remove or "
                           "rename one of them")
 
+    def check_waiting(self):
+        """No run of the new account has appended what an mboxrd file had already."""
+        record = self.records[1]
+        if not is_there(self.waiting):
+            return
+        if not stat.S_ISREG(os.lstat(self.waiting).st_mode):
+            raise Refused(f"{shown(self.waiting)} is no regular file")
+        if self.maildir.folders or self.is_same or not is_there(record) or os.path.samefile(self.waiting, record):
+            return
+        if any(state == b"1" for _, state in self.read(record).rows.values()):
+            raise Refused(f"{shown(self.waiting)} is there, and so is {shown(record)}: getmail has run with the new rc file before "
+                          "this was done, so the mboxrd file may have mail twice. Look there, remove what is too much, and run "
+                          "this again with --same-account")
+
     def plan(self):
-        """Both records, and the rows that both get. All is checked before anything is changed."""
+        """The rows that both accounts get. All is checked before anything is changed."""
         if not self.is_one and not is_there(self.records[0]):
             raise Refused(f"{shown(self.records[0])} isn't there: getmail hasn't run for the old account in this folder")
         old, new, _ = self.maildir.look()
         self.check_another(old, new)
+        self.check_waiting()
         for message in old:
             if message.is_file:
                 self.check_free(message.path, self.maildir.new_path(message.path))
         if self.has_rest():
             self.check_free(*self.rests)
-        records = [self.read(record) for record in (self.records if self.is_one else self.records[:1])]
+        records = [self.read(record) for record in (*self.records, self.waiting) if is_there(record)]
         delivered = {uid for record in records for uid, (_, state) in record.rows.items() if state == b"1"}
         uids = [one.uid for one in old + new if one.uid not in delivered and is_readable(one.path)]
         if uids:
             self.maildir.flush_names()
-        return records, merged(records, uids, int(time.time()))
+        return merged(records, uids, int(time.time()))
 
     def has_rest(self):
         return is_there(self.rests[0]) and stat.S_ISREG(os.lstat(self.rests[0]).st_mode)
 
-    def write_records(self, records, rows):
-        if not self.is_one:
+    def write(self, record, rows):
+        """Writes a record that has other rows."""
+        if not is_there(record) or self.read(record).rows != rows:
+            write_whole(record, record_of(rows), replaces=is_there(record))
+
+    def place_new_record(self, rows):
+        """The new record is whole on the disk before the mark is made, and has its place right after that."""
+        new, has_place = self.records[1], is_there(self.records[1])
+        if has_place and is_there(self.waiting) and os.path.samefile(self.waiting, new):
+            os.unlink(self.waiting)
+            flush_names(self.folder)
+        if has_place and self.is_marked and not is_there(self.waiting):
+            return self.write(new, rows)
+        write_whole(self.waiting, record_of(rows), is_there(self.waiting), new)
+        if not self.is_marked:
             with opened(self.mark, os.O_WRONLY | os.O_CREAT | os.O_EXCL) as number:
                 os.fsync(number)
             flush_names(self.folder)
-        for path, record in zip(self.records, [*records, Record({}, False)]):
-            if record.rows != rows or not is_there(path):
-                write_whole(path, record_of(rows), replaces=is_there(path))
+        (os.replace if has_place else rename)(self.waiting, new)
+        flush_names(self.folder)
 
     def rename_one(self, path, others):
         """Gives a file its new name. If one of the new account's with its unique-id has its octets, only the old name goes."""
@@ -258,9 +314,12 @@ class Carry:
 
     def run(self):
         """Answers how many files got new names, and what was left alone."""
-        records, rows = again(self.plan)
+        rows = again(self.plan)
+        check_renames(f"{self.records[1]}.tmp")
+        self.maildir.check_renames()
         self.has_begun = True
-        self.write_records(records, rows)
+        self.place_new_record(rows)
+        self.write(self.records[0], rows)
         count, odd = self.rename_files()
         return count, odd + self.rename_rest()
 
@@ -270,7 +329,7 @@ def carry(asked, old, new):
     end = "nothing was changed"
     try:
         with locked(asked.g, old), locked(asked.g, new):
-            work = Carry(asked.g, old, new, asked.maildir)
+            work = Carry(asked, old, new)
             try:
                 count, odd = work.run()
             finally:
@@ -292,7 +351,9 @@ def main():
     add_account(words)
     add_account(words, "new_")
     words.add_argument("maildir", nargs="?", help="the destination; leave it out for an mboxrd file")
-    asked = words.parse_args()
+    words.add_argument("--same-account", action="store_true",
+                       help="go on although getmail has run with the new rc file: of no message may a Maildir have two texts then")
+    asked = words_of(words)
     old = digest_of(asked.server, asked.port, asked.username)
     new = digest_of(asked.new_server, asked.new_port, asked.new_username)
     if old == new:

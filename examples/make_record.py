@@ -11,7 +11,7 @@ import sys
 import time
 
 from account_files import (Refused, add_account, add_folder, digest_of, flush, flush_names, is_there, locked, read_record,
-                           record_of, shown, take_any_letter, write_whole)
+                           record_of, shown, take_any_letter, words_of, write_whole)
 
 
 class BadLine(Exception):
@@ -76,7 +76,7 @@ def run(about, kind, read, has_accounts):
     words.set_defaults(account=None)
     if has_accounts:
         words.add_argument("--account", metavar="USER@HOST", help="the account in that file, if it isn't USERNAME's only one")
-    asked = words.parse_args()
+    asked = words_of(words)
 
     digest = digest_of(asked.server, asked.port, asked.username)
     record = os.path.join(asked.g, f"seen-{digest}")
@@ -84,6 +84,8 @@ def run(about, kind, read, has_accounts):
         with open(asked.list, "rb") as file:
             content = file.read()
         seconds = read(content, int(time.time()), os.fsencode(asked.username), asked.account and os.fsencode(asked.account))
+        if content and not content.endswith(b"\n"):
+            raise Refused(f"{shown(asked.list)}: its last line has no end: it may be cut short, in an id or a number")
         with locked(asked.g, digest):
             write(record, seconds)
     except BadLine as line:

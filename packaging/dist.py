@@ -124,7 +124,8 @@ def write_package(seconds, place):
         (tree / "DEBIAN").mkdir()
         (tree / "DEBIAN/md5sums").write_text("".join(
             f"{hashlib.md5(path.read_bytes()).hexdigest()}  {path.relative_to(tree)}\n" for path in files))
-        shutil.copy(TOP / "debian/postinst", tree / "DEBIAN/postinst")
+        for script in ("postinst", "prerm"):
+            shutil.copy(TOP / "debian" / script, tree / "DEBIAN" / script)
         described = control(sum(-(-path.stat().st_size // 1024) for path in files))
         (tree / "DEBIAN/control").write_text(described)
         for path in (tree, *tree.rglob("*")):

@@ -34,7 +34,8 @@ def until(condition, process):
         if found := condition():
             return found
         time.sleep(0.05)
-    os.killpg(process.pid, signal.SIGKILL)
+    with contextlib.suppress(ProcessLookupError):
+        os.killpg(process.pid, signal.SIGKILL)
     sys.exit((process.stdout.read() if process.stdout else "") + "the demonstration failed: a program didn't start")
 
 
@@ -73,18 +74,18 @@ class Built:
 
 
 class Tried:
-    """The programs as `rt try` compiles and runs them: getmail once for both its runs, each of which waits for its rc file."""
+    """The programs as `rt try` compiles and runs them: popd first, and then getmail, once for both its runs."""
 
     def __init__(self, stack, folder, settings):
-        say("The programs aren't proved yet: `rt try` compiles them for this demonstration alone, in two or three minutes.\n"
+        say("The programs aren't proved yet: `rt try` compiles them for this demonstration alone, in some minutes.\n"
             "`make` proves them and builds them into bin/.")
-        self.stack, self.rcfile, self.settings, cases = stack, folder / "getmailrc", settings, folder / "cases"
-        os.mkfifo(self.rcfile)
-        cases.mkdir()
+        self.stack, self.cases, self.getmail = stack, folder / "cases", None
+        rcfile = folder / ".getmail/getmailrc"
+        rcfile.write_text(settings)
+        self.cases.mkdir()
         for run in RUNS:
-            (cases / run).touch()
-            (cases / f"{run}.args").write_text(f"-r\n{self.rcfile}\n-g\n{folder / '.getmail'}\n")
-        self.getmail = self.rt("getmail", "--cases", cases)
+            (self.cases / run).touch()
+            (self.cases / f"{run}.args").write_text(f"-r\n{rcfile}\n-g\n{rcfile.parent}\n")
 
     def rt(self, program, *words):
         return start(self.stack, ["rt", "try", "--seconds", str(SECONDS_TO_START), *words], cwd=TOP / "crates" / program,
@@ -93,16 +94,10 @@ class Tried:
     def popd(self, *words):
         return self.rt("popd", "--", *words)
 
-    def opened(self):
-        """The rc file, which can be written once getmail reads it."""
-        try:
-            return os.fdopen(os.open(self.rcfile, os.O_WRONLY | os.O_NONBLOCK), "w")
-        except OSError:
-            return None
-
     def fetch(self):
-        with until(self.opened, self.getmail) as file:
-            file.write(self.settings)
+        """The output of the next run. Both follow one another at once."""
+        if self.getmail is None:
+            self.getmail = self.rt("getmail", "--cases", self.cases)
         for line in self.getmail.stdout:
             if line.startswith("case="):
                 return
@@ -138,7 +133,9 @@ def main():
     with tempfile.TemporaryDirectory() as place, contextlib.ExitStack() as stack:
         folder = Path(place) / "demo"
         shutil.copytree(DEMO, folder, ignore=shutil.ignore_patterns("seen-*", "lock-*", f"{'?' * 64}.*", "__pycache__"))
-        (folder / "password").chmod(0o600)
+        # Whatever the umask of the copy is: the superuser's programs take nothing that others may write.
+        for path in (folder, *folder.rglob("*")):
+            path.chmod(path.stat().st_mode & ~0o077)
         show(stack, folder)
     say("\nThat was all: popd has ended, and its folder is removed. `man man/getmail.1` says how to set up an account.")
 
