@@ -292,6 +292,18 @@ def test_assumptions(sources):
     assert list(axioms.assumptions(axioms.Programs(sources, ["low", "high"]))) == ASSUMED.split("\n")
 
 
+def test_losses(sources):
+    """What is assumed of a loss of power is numbered after the calls, and names nothing that isn't defined."""
+    programs = axioms.Programs(sources, ["low", "high"])
+    assert list(axioms.losses(programs, [("All is left.", ("Hidden", "Law"))])) == ["   6  All is left. Hidden, Law"]
+    try:
+        list(axioms.losses(programs, [("All is left.", ("Hidden", "Gone"))]))
+    except SystemExit as refused:
+        assert str(refused) == "a loss of power: nothing defines Gone"
+    else:
+        raise AssertionError("a name that nothing defines was printed")
+
+
 # Changes of a small tree, and a line that it prints then, or what it is refused for.
 CHANGED = [
     ("/// read(2) { or not.", "/// Reads.", "Device::read: no comment names its call of the system"),
@@ -407,7 +419,7 @@ def main():
     with tempfile.TemporaryDirectory() as folder:
         sources = small_tree(folder)
         for test in (test_order, test_what_is_not_opened, test_what_is_read, test_contracts, test_assumptions,
-                     test_axioms):
+                     test_losses, test_axioms):
             test(sources)
     test_changes()
     test_this_tree()

@@ -1,7 +1,7 @@
 #!/usr/bin/env python3
 """Prints what the proofs of the programs trust, found in the sources: what is assumed of the devices of which nothing is
-known, the premises of the others, what else excuses a device, the code that no contract covers, the kit's crates, the
-handles and the toolchain; and the traits of these devices that the statement doesn't print.
+known and of a loss of power, the premises of the others, what else excuses a device, the code that no contract covers, the
+kit's crates, the handles and the toolchain; and the traits of these devices that the statement doesn't print.
 
     python3 tools/axioms.py                   # the text, which is docs/AXIOMS.txt
 """
@@ -72,6 +72,54 @@ ASSUMED = """\
    (`ListsIn`), and that what each name led to then it leads to until it is looked at, unless it is a file's that moved
    or went: a message whose name is one of what can't be opened isn't fetched. All that is above it is proved to tell
    just these."""
+LOSS = """\
+  A loss of power. What it leaves of files of our own is `Loses`, under each name one of what `MayLeave` allows; and of
+  the folders of a Maildir `LosesMail`, by which its files are left as `LosesPower` says (these are in 9 and in
+  docs/STATEMENT.txt). No call of a program shows it, so each part of it is assumed of the system and of its disk. One
+  that comes during a call leaves what it would after the call, done or refused. Nothing is assumed of the order in
+  which files and names reach the disk, nor of what a refused flush did."""
+# What is assumed of a loss of power: the words, and the definitions that say it.
+LOSSES = [
+    ("A flush of a file: the bytes that the file had when fsync(2) of it succeeded are left, until it is changed; unless a "
+     "flush of it was refused before.", ("flushed", "secured", "doubted", "IsLeft")),
+    ("A file that was changed since: of the flushed bytes the front that wasn't cut off since is left. Each byte after it "
+     "is the one in memory, or the one that was flushed, or a zero, and then all after it in its block of 512 octets are "
+     "zeros. The file is no longer than in memory, or as long as it was flushed.",
+     ("IsTorn", "IsByteLeft", "block_size", "appended", "cut")),
+    ("No stale octets: so what is left of a file of our own has none that was never written to it, but zeros. Of a message's "
+     "file that wasn't flushed this isn't assumed: any octets may be left.", ("IsByteLeft", "IsLeftAs")),
+    ("A flush of a folder: each name in the folder leads to what it led to when fsync(2) of it succeeded, until the name is "
+     "changed.", ("names_synced", "names_flushed_in", "AreLeftAs")),
+    ("A name that was changed since leads to what it leads to now, or to what it led to at some moment since the flush, a "
+     "file or none, whatever the other names do.", ("MayLeave", "IsLeftOfOne", "Loses")),
+    ("rename(2) and link(2) are one step, which a loss of power leaves done or not. So a name that is given to another file "
+     "always leads to one of the two.", ("put_in", "PutsIntoNew")),
+    ("A file of a Maildir that readers rename, within a folder or from one to the other, is left once, in a place that it "
+     "has or had, if a name of it was durable; and a flush of either folder makes its name durable.",
+     ("MovesFile", "named_by", "EntriesLeftAs")),
+    ("What is left is durable, and the folders are those that were there. A file that was being written is none of theirs.",
+     ("Loses", "LosesMail", "LosesPower")),
+]
+FILE_SYSTEMS = """\
+  Which file systems do this, by their documents and sources; the power of no disk was cut (docs/TESTING.md says what
+  was tried in its place).
+    do it
+      ext4 with data=ordered, which is its default; xfs; btrfs. Each on a disk that does what it says of a flush: not
+      one with a write cache that ignores it, nor with barriers switched off
+      NFS, as far as the server has flushed what it says that it has (`sync` in its exports, not `async`)
+    don't
+      FUSE if its server has no FSYNCDIR, as bindfs: fsync(2) of a folder succeeds, and nothing is done, which strace
+        shows; so a message may be recorded whose name a loss of power takes
+      overlay with `volatile`, and tmpfs: no flush does anything; a loss of power takes all, or any part
+      CIFS: fsync(2) of a folder succeeds without a request to the server
+      ext4 with data=writeback: a file that was appended to and not flushed may have stale octets, so a record may not
+        be readable, and an mboxrd file may end with what was never mail
+      ext2, FAT: they have no journal; a rename may leave neither file, and a file that is moved no name, or two
+    were not looked at: ZFS, f2fs, bcachefs, and all others.
+  A listing of a Maildir at one moment (CallsShared, list) needs the folder's time of change at once. A client of NFS or
+  CIFS may keep attributes of its own for seconds (`actimeo`): then a file that another machine moves during a listing
+  may be missed. FAT keeps times in steps of two seconds.
+  A program can't know any of this: a flush that succeeds and did nothing looks like one that did."""
 PREMISES = """\
 2. The premises of the other devices. What their traits say is proved, for one over another device as far as that one
    does what its trait says."""
@@ -109,9 +157,11 @@ UNCOVERED = """\
 BELOW = Part("The other traits", """\
 9. The traits of which 1 assumes clauses, beside those in docs/STATEMENT.txt: of single calls of the system, over which
    the real files are made, of the folders over which the real Maildir is, and of the calls over which a server's
-   maildrop is. Each name that docs/STATEMENT.txt doesn't have is explained before it is used.""",
+   maildrop is; and before them what a loss of power leaves of folders. Each name that docs/STATEMENT.txt doesn't have
+   is explained before it is used.""",
              traits=("folder_store:MadeHandle", "folder_store:OpenHandle", "folder_store:FileCalls",
-                     "folder_store:SharedCalls", "folder_drop:MailFiles"))
+                     "folder_store:SharedCalls", "folder_drop:MailFiles"),
+             definitions=("folder_store:PowerLoss:Loses", "folder_store:MailPower:LosesMail"))
 
 
 class Function(NamedTuple):
@@ -377,9 +427,14 @@ def counted(found):
     return f"{sum(len(each.clauses) for each in found) - laws} clauses" + (f" and {laws} laws" if laws else "")
 
 
+def unknown_devices(programs):
+    """What is assumed of each device of which nothing is known."""
+    return [(f"  {impl.type}, a {impl.trait} ({place})", assumed_of(programs, impl))
+            for impl, place in programs.devices() if programs.premise(impl) == UNKNOWN]
+
+
 def assumptions(programs):
-    devices = [(f"  {impl.type}, a {impl.trait} ({place})", assumed_of(programs, impl))
-               for impl, place in programs.devices() if programs.premise(impl) == UNKNOWN]
+    devices = unknown_devices(programs)
     found = [each for _, parts in devices for each in parts]
     heads, number = sorted({each.head for each in found}, key=lambda head: (head[0].isupper(), head)), count(1)
     for head in heads:
@@ -392,6 +447,15 @@ def assumptions(programs):
     yield from ("", f"  {len(pages)} calls of the system, {len(pages - alone)} of them only in methods of several;"
                     f" {counted(found)}, by devices:")
     yield from (f"{device}: {counted(parts)}" for device, parts in devices)
+
+
+def losses(programs, assumed=LOSSES):
+    """What is assumed of a loss of power, numbered after the calls, with the definitions that say it."""
+    first = sum(len(parts) for _, parts in unknown_devices(programs)) + 1
+    for number, (words, names) in enumerate(assumed, first):
+        if missing := [name for name in names if name not in programs.named]:
+            raise SystemExit(f"a loss of power: nothing defines {missing[0]}")
+        yield from wrapped(f"{words} {', '.join(names)}", f"  {number:2}  ", " " * 6)
 
 
 def premises(programs):
@@ -454,7 +518,7 @@ def text_of(top=TOP):
     kit = subprocess.run(["rt", "version"], check=True, capture_output=True, text=True).stdout.strip()
     return "\n".join([
         f"What the proofs of {' and '.join(PROGRAMS)} trust, from the sources: `make axioms` prints this text.", "",
-        ASSUMED, *assumptions(programs), "", PREMISES, *premises(programs), "", EXCUSED, *excuses(programs), "",
+        ASSUMED, *assumptions(programs), "", LOSS, *losses(programs), "", FILE_SYSTEMS, "", PREMISES, *premises(programs), "", EXCUSED, *excuses(programs), "",
         UNCOVERED, *uncovered_code(programs), "",
         "5. The kit's crates that each program is linked with, whose statements are trusted:", *kit_crates(), "",
         f"6. {(top / 'HANDLES').read_text().strip()} Functions that have one:", *handles(programs), "",

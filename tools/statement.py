@@ -30,8 +30,10 @@ PARTS = [
 What is promised of any list of calls, under any limits: with a Maildir, and with an mboxrd file.""",
          laws=("fetch_runs:calls_keep_promises", "fetch_runs:mbox_calls_keep_promises")),
     Part("In order", """\
-What is promised if a server shows its mail in one order, under one limit on sizes.""",
-         laws=("fetch_runs:headline", "fetch_runs:mbox_headline")),
+What calls keep of the order of messages, and what is promised if a server shows its mail in one order, under one limit on
+sizes.""",
+         laws=("fetch_runs:calls_keep_order", "fetch_runs:mbox_calls_keep_order", "fetch_runs:headline",
+               "fetch_runs:mbox_headline")),
     Part("What isn't opened", """\
 The contract by which a call of `session` is one that these laws speak of; and that a record's bytes stand for one record.""",
          laws=("fetch_record:files_stand_for_one_record",), calls=("fetch_session:promised_session",)),
@@ -48,14 +50,19 @@ what `BurnsForLink` says, and each of `Fused` what `Fuses` says.""",
                       "test_devices:StoreFuse:fused_maildir", "test_devices:StoreFuse:device_of",
                       "test_devices:StoreFuse:refusals", "test_devices:StoreFuse:FusedIsSound")),
     Part("That it happens", """\
-Over a server, folders and files in memory: losses of power happen; and a session in which nothing fails ends, and has
-stored the message that the server had.""",
-         laws=("local_fetch:losses_happen", "local_fetch:one_is_stored_in_memory")),
+Over folders and files in memory losses of power happen, and take files and bytes.""",
+         laws=("local_fetch:losses_happen",)),
     Part("That it ends well", """\
 Calls over a maildrop that stays record all its messages in the end; what 1 and 2 say, and this, holds of the visits of
 `run_sessions`; and a message of a maildrop from which calls delete is always there, or held, or was taken away.""",
          laws=("fetch_runs:calls_get_far", "fetch_runs:mbox_calls_get_far", "fetch_runs:visits_keep_promises",
                "local_fetch:mail_is_moved")),
+    Part("What it comes to", """\
+In plain data: of what the premises of these laws hold; and what their conclusions come to for a first call, a second one,
+a loss of power, and the limit on the number of messages.""",
+         laws=("fetch_runs:premises_hold", "fetch_runs:firsts_are_prefixes", "fetch_runs:firsts_are_entries",
+               "fetch_runs:losses_take_one", "fetch_runs:losses_keep_the_recorded", "fetch_runs:losses_keep_entries",
+               "fetch_runs:calls_record_the_limit", "local_fetch:seconds_fetch_nothing_in_memory")),
 ]
 # Definitions that nobody has to open: only what they are of is printed, and what they are made of is left out.
 UNOPENED = ["fetch_session:Visits:WasMade", "fetch_record:RecordMeaning:StandsFor",
